@@ -1,0 +1,1 @@
+// Matching: patterns, consistent extensions, the walk. Definitions and laws are in specs/; there is no code here.

@@ -1,0 +1,9 @@
+pub mod Words
+pub mod Text
+pub mod Table
+pub mod Term
+pub mod Value
+pub mod BoolLaws
+pub mod ListLaws
+pub mod TableLaws
+pub mod ValueLaws

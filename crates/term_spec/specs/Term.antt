@@ -1,0 +1,103 @@
+-- Terms as records of words, and their rules (01, "Records", Term).
+use mathlib.Core.List.{List, [], _∷_, _++_}
+use mathlib.Core.Bool.{Bool, true, false, _&&_, _||_}
+use lib.Dec.{leb, ltb, eqb}
+use lib.ListN.{length, getD, take, drop}
+use Prim.Native.Nat.{ℕ, suc, zero, _+_, max}
+use Rattle.term_spec.specs.Words.{Layout}
+use Rattle.term_spec.specs.Text.{identifierText, numberText, textRule}
+
+-- "Term, four words: kind, a, b, c."
+pub record Term : Type 0 where
+  pub kind : ℕ
+  pub a : ℕ
+  pub b : ℕ
+  pub c : ℕ
+
+unfoldable pub termOf : List ℕ → Term
+termOf w = record { kind = getD w 0 0; a = getD w 1 0; b = getD w 2 0; c = getD w 3 0 }
+
+-- The term record's width stands here alone (02: 2.7).
+abbrev pub termLayout : Layout Term
+termLayout = record { width = 4; read = termOf; words = λ t. t .kind ∷ t .a ∷ t .b ∷ t .c ∷ [] }
+
+abbrev pub noTerm : Term
+noTerm = record { kind = 0; a = 0; b = 0; c = 0 }
+
+-- A run of terms: its start and its length.
+pub record Run : Type 0 where
+  pub start : ℕ
+  pub len : ℕ
+
+unfoldable pub runOf : List ℕ → Run
+runOf w = record { start = getD w 0 0; len = getD w 1 0 }
+
+abbrev pub runLayout : Layout Run
+runLayout = record { width = 2; read = runOf; words = λ r. r .start ∷ r .len ∷ [] }
+
+abbrev pub noRun : Run
+noRun = record { start = 0; len = 0 }
+
+-- What a run shows of a list that has an entry for each term.
+abbrev pub part : {X : Type 0} → List X → Run → List X
+part xs r = take (r .len) (drop (r .start) xs)
+
+-- A run that ends within the used terms; "even empty" ones are held to it.
+unfoldable pub runRule : ℕ → Run → Bool
+runRule used r = leb (r .start + r .len) used
+
+unfoldable pub runsRule : ℕ → List Run → Bool
+runsRule used [] = true
+runsRule used (r ∷ rs) = runRule used r && runsRule used rs
+
+-- "At most 65,536 terms", nodes, name bytes, and terms in a field.
+abbrev pub limit : ℕ
+limit = 65536
+
+-- "a is a Unicode scalar value": below 0xD800, or from 0xE000 to 0x10FFFF.
+unfoldable pub isScalar : ℕ → Bool
+isScalar c = ltb c 55296 || leb 57344 c && leb c 1114111
+
+-- A term's own depth: a bracket's is its c, no other term has one.
+unfoldable pub depthK : ℕ → Term → ℕ
+depthK zero t = 0
+depthK (suc zero) t = 0
+depthK (suc (suc zero)) t = 0
+depthK (suc (suc (suc zero))) t = t .c
+depthK (suc (suc (suc (suc k)))) t = 0
+
+unfoldable pub deepest : List Term → ℕ
+deepest [] = 0
+deepest (t ∷ ts) = max (depthK (t .kind) t) (deepest ts)
+
+abbrev pub contentsRun : Term → Run
+contentsRun t = record { start = t .a; len = t .b }
+
+-- "3 Bracket: contents are the run of b terms from term a, a plus b at most its own number; c is its depth, 1 plus the deepest
+-- bracket inside (1 if none), at most 255." Its own number is the length of what is below it.
+unfoldable pub bracketRule : List Term → Term → Bool
+bracketRule below t = leb (t .a + t .b) (length below) && eqb (t .c) (suc (deepest (part below (contentsRun t)))) && leb (t .c) 255
+
+-- The rule of a literal symbol (kinds 0 to 2), by its kind and words; patterns have the same ("kinds 0 to 2 as terms").
+unfoldable pub symbolRule : ℕ → List ℕ → ℕ → ℕ → ℕ → Bool
+symbolRule zero names a b c = isScalar a && eqb b 0 && eqb c 0
+symbolRule (suc zero) names a b c = textRule identifierText names a b && eqb c 0
+symbolRule (suc (suc zero)) names a b c = textRule numberText names a b && eqb c 0
+symbolRule (suc (suc (suc k))) names a b c = false
+
+-- The rule of a term by its kind, among the terms below it. "4 Unknown: a kind (0 symbol, 1 term, 2 expression), b level, c index".
+unfoldable pub termRuleK : ℕ → List ℕ → List Term → Term → Bool
+termRuleK zero names below t = symbolRule 0 names (t .a) (t .b) (t .c)
+termRuleK (suc zero) names below t = symbolRule 1 names (t .a) (t .b) (t .c)
+termRuleK (suc (suc zero)) names below t = symbolRule 2 names (t .a) (t .b) (t .c)
+termRuleK (suc (suc (suc zero))) names below t = bracketRule below t
+termRuleK (suc (suc (suc (suc zero)))) names below t = leb (t .a) 2
+termRuleK (suc (suc (suc (suc (suc k))))) names below t = false
+
+unfoldable pub termRule : List ℕ → List Term → Term → Bool
+termRule names below t = termRuleK (t .kind) names below t
+
+-- The rule of a store: each term's, among those below it (2 BadTerm otherwise).
+unfoldable pub termsRule : List ℕ → List Term → List Term → Bool
+termsRule names below [] = true
+termsRule names below (t ∷ ts) = termRule names below t && termsRule names (below ++ (t ∷ [])) ts

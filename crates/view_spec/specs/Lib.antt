@@ -1,0 +1,4 @@
+pub mod Node
+pub mod Build
+pub mod Read
+pub mod RustJoin
