@@ -4,3 +4,16 @@ pub mod Consistent
 pub mod Listing
 pub mod Walk
 pub mod Answer
+pub mod SoundLaws
+pub mod CompleteLaws
+pub mod OrderLaws
+pub mod WalkLaws
+pub mod NameLaws
+pub mod ConsistentLaws
+pub mod KeepLaws
+pub mod RunLaws
+pub mod AnswerLaws
+pub mod MatchLaws
+pub mod RustSplits
+pub mod RustSplitsLaws
+pub mod RustSplitsExamples

@@ -7,3 +7,4 @@ pub mod BoolLaws
 pub mod ListLaws
 pub mod TableLaws
 pub mod ValueLaws
+pub mod WordsLaws

@@ -1,0 +1,142 @@
+-- 01's starred trial messages as one table, and one computed test over the definitions: each row is run on lent words, from_runs and then
+-- the listing, with names, identifiers and numbers by their text.
+use mathlib.Core.Path.{_≡_, refl}
+use mathlib.Core.List.{List, [], _∷_, _++_, map}
+use mathlib.Core.Option.{Option, some, none}
+use lib.ListN.{length, replicate}
+use Prim.Native.Nat.{ℕ}
+use native.Mathlib.Decide.{ℕ-discrete, decLe, decLt}
+use Rattle.term_spec.specs.Words.{decode, encode, count, whole, records, write}
+use Rattle.term_spec.specs.Text.{isLetter, isDigit, isNameByte, every, identifierText, numberText, variableText, textRule, lower}
+use Rattle.term_spec.specs.Table.{table}
+use Rattle.term_spec.specs.Term.{termOf, runOf, runRule, runsRule, isScalar, depthK, deepest, bracketRule, symbolRule, termRuleK, termRule, termsRule}
+use Rattle.term_spec.specs.Value.{toList, fromList, bracketed, contents, valueK, valueOf, values, canon, canons, heads?, list?, same?, sames?, takesTable, unknownColumn, column, takesRow, row, takes, decided, takes?}
+use Rattle.view_spec.specs.Node.{nodeOf, nilRule, consRule, concatRule, nodeRuleK, nodeRule, eachNode, nodesRule, fieldRule, meaningK, meaningOf}
+use Rattle.view_spec.specs.Build.{ifDec, fuseHead, fuseOnto, fuse, chainHead, chain, total, parts, fromRuns, unclampK, unclampOf, unclamp, secondK, planK, planOf, plan, grow, planMakes, joinBy, join, dropK, dropOf, dropPlan, dropMakes, dropNode, shrink, takeField, rest, range}
+use Rattle.view_spec.specs.Read.{place, copyAt, settledAt, isYes, equalTerms, startsWith}
+use Rattle.match_spec.specs.Pattern.{itemOf, bindingOf, nameAt, name?, findHere, find, addIf, add, namesAfter, number, elementK, element, bindingName, itemRuleK, closeRule, nestRuleK, noneOpen, itemsRule, patternRule, bindingRule, bindingsRule}
+use Rattle.match_spec.specs.Element.{onTop, wrap, push, put, Ones, canonE}
+use Rattle.match_spec.specs.Consistent.{note, openLengths, Lex, Before, Sorted}
+use Rattle.match_spec.specs.Listing.{guard, each, bindIf, bind, first, enter, leave, cuts, finish, candidates}
+use Rattle.match_spec.specs.Walk.{cellsOf, strip, ifFits, atHead, through, ifKnown, rigidFits, ends, upto, when, withHead, ifEmpty, takeFirst, leaveLevel, finishWalk, bindRun, topLevel, spread, walk, hits}
+use Rattle.match_spec.specs.Answer.{afterOne, writeHit, absorbOne, absorb, slotsIn, numberOf}
+use Rattle.calls_spec.specs.Store.{terms, nodes, spelled, shows, fieldTerms, capacity, countsRule, storeTerms, storeNodes, addTerms, addNodes}
+use Rattle.calls_spec.specs.Step.{answerNumber, slotsLent, workLent, ask, evenRule, arguments, input, build, nodeRoom, room, matchEvents, matchProgress, matchAnswer, concat, fillSlots, afterMatch, afterFlatten, afterBuild, afterRead, accept, refuse, decide, step}
+use Rattle.calls_spec.specs.Demand3.{trace, final, sameField?, modelTerms, entered, enterModel, model, slotsFilled, slotNames, readSlots, listedRuns, candidatesOf}
+use Rattle.term_spec.specs.Value.{Value, char, ident, num, unknown}
+use Rattle.view_spec.specs.Node.{Field, emptyField}
+use Rattle.match_spec.specs.Element.{Env}
+use Rattle.match_spec.specs.Answer.{allOfThem}
+use Rattle.calls_spec.specs.Store.{Store}
+use Rattle.calls_spec.specs.Step.{Call, callFromRuns, callMatch, Answer, refused, built, truth, inStore, inWork, listed, After}
+use Rattle.calls_spec.specs.Demand3.{Moment}
+
+-- The names `12XxA007`, and a store of terms for every row.
+abbrev pub rowNames : List ℕ
+rowNames = 49 ∷ 50 ∷ 88 ∷ 120 ∷ 65 ∷ 48 ∷ 48 ∷ 55 ∷ []
+
+abbrev pub rowTerms : List ℕ
+rowTerms =
+    (0 ∷ 97 ∷ 0 ∷ 0 ∷ [])  -- 0: a
+    ++ (0 ∷ 97 ∷ 0 ∷ 0 ∷ [])  -- 1: a
+    ++ (0 ∷ 97 ∷ 0 ∷ 0 ∷ [])  -- 2: a
+    ++ (0 ∷ 98 ∷ 0 ∷ 0 ∷ [])  -- 3: b
+    ++ (0 ∷ 45 ∷ 0 ∷ 0 ∷ [])  -- 4: -
+    ++ (0 ∷ 45 ∷ 0 ∷ 0 ∷ [])  -- 5: -
+    ++ (3 ∷ 0 ∷ 1 ∷ 1 ∷ [])  -- 6: (a)
+    ++ (3 ∷ 0 ∷ 0 ∷ 1 ∷ [])  -- 7: ()
+    ++ (0 ∷ 121 ∷ 0 ∷ 0 ∷ [])  -- 8: y
+    ++ (4 ∷ 0 ∷ 0 ∷ 1 ∷ [])  -- 9: a symbol unknown
+    ++ (4 ∷ 1 ∷ 0 ∷ 1 ∷ [])  -- 10: a term unknown
+    ++ (4 ∷ 2 ∷ 0 ∷ 1 ∷ [])  -- 11: an expression unknown
+    ++ (2 ∷ 5 ∷ 3 ∷ 0 ∷ [])  -- 12: the number 007
+
+abbrev pub rowStore : Store
+rowStore = record { names = rowNames; termWords = rowTerms; termsUsed = 13; nodeWords = replicate 24 0; nodesUsed = 1 }
+
+-- Pattern records.
+abbrev pub symbolVar : ℕ → List ℕ
+symbolVar o = 5 ∷ o ∷ 1 ∷ 0 ∷ []
+
+abbrev pub termVar : ℕ → List ℕ
+termVar o = 6 ∷ o ∷ 1 ∷ 0 ∷ []
+
+abbrev pub exprVar : ℕ → List ℕ
+exprVar o = 7 ∷ o ∷ 1 ∷ 0 ∷ []
+
+abbrev pub letter : ℕ → List ℕ
+letter c = 0 ∷ c ∷ 0 ∷ 0 ∷ []
+
+abbrev pub aCall : List ℕ
+aCall = 8 ∷ 0 ∷ 0 ∷ 0 ∷ []
+
+-- One row of the table: the pattern, the field's runs, 01's number, and the candidates, each entry by its terms.
+pub record Trial : Type 0 where
+  pub pattern : List ℕ
+  pub runs : List ℕ
+  pub number : ℕ
+  pub candidates : List Env
+
+abbrev pub trial : List ℕ → List ℕ → ℕ → List Env → Trial
+trial p f n l = record { pattern = p; runs = f; number = n; candidates = l }
+
+abbrev pub trials : List Trial
+trials =
+    -- the empty pattern on nothing, and on a
+    trial [] [] 0 ([] ∷ [])
+    ∷ trial [] (0 ∷ 1 ∷ []) 10 []
+    -- e.1 on nothing
+    ∷ trial (exprVar 0) [] 0 (([] ∷ []) ∷ [])
+    -- e.1 '-' e.2 on --
+    ∷ trial (exprVar 0 ++ letter 45 ++ exprVar 1) (4 ∷ 2 ∷ []) 0 (([] ∷ (char 45 ∷ []) ∷ []) ∷ ((char 45 ∷ []) ∷ [] ∷ []) ∷ [])
+    -- e.X e.x on aa, and on aaa
+    ∷ trial (exprVar 2 ++ exprVar 3) (0 ∷ 2 ∷ []) 0 (((char 97 ∷ []) ∷ []) ∷ [])
+    ∷ trial (exprVar 2 ++ exprVar 3) (0 ∷ 3 ∷ []) 10 []
+    -- s.1 and t.1 on (a)
+    ∷ trial (symbolVar 0) (6 ∷ 1 ∷ []) 10 []
+    ∷ trial (termVar 0) (6 ∷ 1 ∷ []) 0 (((bracketed (char 97 ∷ []) ∷ []) ∷ []) ∷ [])
+    -- s.1 on a term unknown, and on a symbol unknown
+    ∷ trial (symbolVar 0) (10 ∷ 1 ∷ []) 10 []
+    ∷ trial (symbolVar 0) (9 ∷ 1 ∷ []) 0 (((unknown 0 0 1 ∷ []) ∷ []) ∷ [])
+    -- t.1 and e.1 on an expression unknown
+    ∷ trial (termVar 0) (11 ∷ 1 ∷ []) 10 []
+    ∷ trial (exprVar 0) (11 ∷ 1 ∷ []) 0 (((unknown 2 0 1 ∷ []) ∷ []) ∷ [])
+    -- the number 7 on 007
+    ∷ trial (2 ∷ 7 ∷ 1 ∷ 0 ∷ []) (12 ∷ 1 ∷ []) 10 []
+    -- s.A e.A on ab
+    ∷ trial (symbolVar 4 ++ exprVar 4) (2 ∷ 2 ∷ []) 0 (((char 97 ∷ []) ∷ (char 98 ∷ []) ∷ []) ∷ [])
+    -- 'a' <F> on b, and on a
+    ∷ trial (letter 97 ++ aCall) (3 ∷ 1 ∷ []) 10 []
+    ∷ trial (letter 97 ++ aCall) (0 ∷ 1 ∷ []) 11 []
+    -- e.1 (<F>) 'x' on () y
+    ∷ trial (exprVar 0 ++ (3 ∷ 3 ∷ 0 ∷ 0 ∷ []) ++ aCall ++ (4 ∷ 1 ∷ 0 ∷ 0 ∷ []) ++ letter 120) (7 ∷ 2 ∷ []) 10 []
+    ∷ []
+
+-- The field that a call answered.
+unfoldable pub fieldOf : Answer → Field
+fieldOf (refused n) = emptyField
+fieldOf (built f) = f
+fieldOf (truth b) = emptyField
+fieldOf (inStore r) = emptyField
+fieldOf (inWork n) = emptyField
+fieldOf (listed n c k) = emptyField
+
+abbrev pub Outcome : Type 0
+Outcome = ℕ × List Env
+
+-- The listing's number and candidates, read from sixteen slots' worth of words, on the stores that from_runs left.
+unfoldable pub listOn : After → List ℕ → Outcome
+listOn made p =
+    let c = callMatch allOfThem (record { field = fieldOf (made .answer); pattern = p; bindings = []; slots = replicate 32 0 }) in
+    let m : Moment = record { before = made .store; call = c; after = step (made .store) c } in
+    (answerNumber (m .after .answer), candidatesOf m)
+
+unfoldable pub run : Trial → Outcome
+run r = listOn (step rowStore (callFromRuns (r .runs))) (r .pattern)
+
+abbrev pub expected : Trial → Outcome
+expected r = (r .number, r .candidates)
+
+pub starred-rows : map run trials ≡ map expected trials
+unfolding decode encode count whole records write isLetter isDigit isNameByte every identifierText numberText variableText textRule lower table termOf runOf runRule runsRule isScalar depthK deepest bracketRule symbolRule termRuleK termRule termsRule toList fromList bracketed contents valueK valueOf values canon canons heads? list? same? sames? takesTable unknownColumn column takesRow row takes decided takes? nodeOf nilRule consRule concatRule nodeRuleK nodeRule eachNode nodesRule fieldRule meaningK meaningOf ifDec fuseHead fuseOnto fuse chainHead chain total parts fromRuns unclampK unclampOf unclamp secondK planK planOf plan grow planMakes joinBy join dropK dropOf dropPlan dropMakes dropNode shrink takeField rest range place copyAt settledAt isYes equalTerms startsWith itemOf bindingOf nameAt name? findHere find addIf add namesAfter number elementK element bindingName itemRuleK closeRule nestRuleK noneOpen itemsRule patternRule bindingRule bindingsRule onTop wrap push put Ones canonE note openLengths Lex Before Sorted guard each bindIf bind first enter leave cuts finish candidates cellsOf strip ifFits atHead through ifKnown rigidFits ends upto when withHead ifEmpty takeFirst leaveLevel finishWalk bindRun topLevel spread walk hits afterOne writeHit absorbOne absorb slotsIn numberOf terms nodes spelled shows fieldTerms capacity countsRule storeTerms storeNodes addTerms addNodes answerNumber slotsLent workLent ask evenRule arguments input build nodeRoom room matchEvents matchProgress matchAnswer concat fillSlots afterMatch afterFlatten afterBuild afterRead accept refuse decide step trace final sameField? modelTerms entered enterModel model slotsFilled slotNames readSlots listedRuns candidatesOf ℕ-discrete decLe decLt fieldOf listOn run
+starred-rows = refl

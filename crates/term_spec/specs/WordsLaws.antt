@@ -1,0 +1,126 @@
+-- Reading records after records were written: the laws that see where a record's words lie, once for every kind of record.
+use mathlib.Core.Path.{_≡_, refl, ap, ap₂, sym, _∙_}
+use mathlib.Core.List.{List, [], _∷_, _++_, append-assoc, append-nil}
+use mathlib.Core.Bool.{Bool}
+use lib.Dec.{T, eqb→eq}
+use lib.ListN.{length, getD, take, drop, length-append, length-take, length-drop, take-append-drop}
+use lib.Seq.{take-append-le, drop-append-le, take-at, drop-at, length-take-le, take-take, drop-drop, take-append-seam}
+use Prim.Native.Nat.{ℕ, suc, zero, _+_, _*_, _-_, _/_, _%_, _≤_, _<_, min}
+use native.Mathlib.Omega.{arith}
+use native.Mathlib.Nat.{suc-mul, le-div-iff-mul-le, div-add-mod', mul-le-mul-right}
+use Rattle.term_spec.specs.Words.{Layout, decode, encode, count, whole, records, write}
+use Rattle.term_spec.specs.Term.{Term, termOf, termLayout, Run, runOf, runLayout}
+
+-- A record's words are as many as its width, and mean the record.
+pub record Lays {A : Type 0} (L : Layout A) : Type 0 where
+  pub some-words : 1 ≤ L .width
+  pub sized : (r : A) → length (L .words r) ≡ L .width
+  pub reads : (r : A) → L .read (L .words r) ≡ r
+
+pub term-lays : Lays termLayout
+unfolding termOf
+term-lays = record { some-words = omega arith; sized = λ r. refl; reads = λ r. refl }
+
+pub run-lays : Lays runLayout
+unfolding runOf
+run-lays = record { some-words = omega arith; sized = λ r. refl; reads = λ r. refl }
+
+part-of-sum : (k n w : ℕ) → suc k * w ≤ n → (w ≤ n) × (k * w ≤ n - w)
+part-of-sum k n w h = let e = suc-mul k w in (omega arith, omega arith)
+
+pub decode-length : {A : Type 0} (L : Layout A) (n : ℕ) (w : List ℕ) → length (decode L n w) ≡ n
+unfolding decode
+decode-length L zero w = refl
+decode-length L (suc n) w = ap suc (decode-length L n (drop (L .width) w))
+
+-- the first n records lie in the first n times width words
+pub decode-append : {A : Type 0} (L : Layout A) (n : ℕ) (w x : List ℕ) → n * L .width ≤ length w → decode L n (w ++ x) ≡ decode L n w
+unfolding decode
+decode-append L zero w x h = refl
+decode-append L (suc n) w x h =
+    let (p, q) = part-of-sum n (length w) (L .width) h in
+    ap₂ (λ y z. L .read y ∷ decode L n z) (take-append-le (L .width) w x p) (drop-append-le (L .width) w x p)
+    ∙ ap (L .read (take (L .width) w) ∷_) (decode-append L n (drop (L .width) w) x (rw length-drop q))
+
+pub decode-take : {A : Type 0} (L : Layout A) (n : ℕ) (w : List ℕ) → n * L .width ≤ length w → decode L n (take (n * L .width) w) ≡ decode L n w
+decode-take L n w h =
+    sym (decode-append L n (take (n * L .width) w) (drop (n * L .width) w) (omega (arith, length-take-le (n * L .width) w h)))
+    ∙ ap (decode L n) (take-append-drop (n * L .width) w)
+
+-- records after other words
+pub decode-after : {A : Type 0} (L : Layout A) (n m : ℕ) (w x : List ℕ) → length w ≡ n * L .width → decode L (n + m) (w ++ x) ≡ decode L n w ++ decode L m x
+unfolding decode
+decode-after L zero m [] x e = let z : zero + m ≡ m = omega arith in ap (λ y. decode L y x) z
+decode-after L zero m (a ∷ w) x e = absurd (omega arith)
+decode-after L (suc n) m w x e =
+    let (p, q) = part-of-sum n (length w) (L .width) (omega arith) in
+    let z : suc n + m ≡ suc (n + m) = omega arith in
+    let l : length (drop (L .width) w) ≡ n * L .width = length-drop (L .width) w ∙ omega (arith, suc-mul n (L .width)) in
+    ap (λ y. decode L y (w ++ x)) z
+    ∙ ap₂ (λ y u. L .read y ∷ decode L (n + m) u) (take-append-le (L .width) w x p) (drop-append-le (L .width) w x p)
+    ∙ ap (L .read (take (L .width) w) ∷_) (decode-after L n m (drop (L .width) w) x l)
+
+module _ {A : Type 0} (L : Layout A) (lays : Lays L) where
+  pub encode-length : (rs : List A) → length (encode L rs) ≡ length rs * L .width
+  unfolding encode
+  encode-length [] = omega arith
+  encode-length (r ∷ rs) = length-append (L .words r) (encode L rs) ∙ omega (arith, lays .sized r, encode-length rs, suc-mul (length rs) (L .width))
+
+  -- what was written is read back
+  pub decode-encode : (rs : List A) (x : List ℕ) → decode L (length rs) (encode L rs ++ x) ≡ rs
+  unfolding encode decode
+  decode-encode [] x = refl
+  decode-encode (r ∷ rs) x =
+      let e = append-assoc (L .words r) (encode L rs) x in
+      ap₂ (λ y z. L .read y ∷ decode L (length rs) z)
+        (ap (take (L .width)) e ∙ take-at (L .words r) (encode L rs ++ x) (L .width) (lays .sized r))
+        (ap (drop (L .width)) e ∙ drop-at (L .words r) (encode L rs ++ x) (L .width) (lays .sized r))
+      ∙ ap₂ _∷_ (lays .reads r) (decode-encode rs x)
+
+  pub encode-append : (rs qs : List A) → encode L (rs ++ qs) ≡ encode L rs ++ encode L qs
+  unfolding encode
+  encode-append [] qs = refl
+  encode-append (r ∷ rs) qs = ap (L .words r ++_) (encode-append rs qs) ∙ sym (append-assoc (L .words r) (encode L rs) (encode L qs))
+
+  -- the records before, then those written
+  pub decode-write : (w : List ℕ) (i : ℕ) (rs : List A) → i * L .width ≤ length w → decode L (i + length rs) (write L w i rs) ≡ decode L i w ++ rs
+  unfolding write
+  decode-write w i rs h =
+      ap (decode L (i + length rs)) (append-assoc (take (i * L .width) w) (encode L rs) _)
+      ∙ decode-after L i (length rs) (take (i * L .width) w) (encode L rs ++ drop ((i + length rs) * L .width) w) (length-take-le (i * L .width) w h)
+      ∙ ap₂ _++_ (decode-take L i w h) (decode-encode rs _)
+
+  pub write-length : (w : List ℕ) (i : ℕ) (rs : List A) → (i + length rs) * L .width ≤ length w → length (write L w i rs) ≡ length w
+  unfolding write
+  write-length w i rs h =
+      let p : i * L .width ≤ (i + length rs) * L .width = mul-le-mul-right (L .width) (omega arith) in
+      let q : (i + length rs) * L .width ≡ i * L .width + length rs * L .width = product-sum i (length rs) (L .width) in
+      length-append (take (i * L .width) w ++ encode L rs) (drop ((i + length rs) * L .width) w)
+      ∙ omega (arith, length-append (take (i * L .width) w) (encode L rs), length-take-le (i * L .width) w (omega arith), encode-length rs, length-drop ((i + length rs) * L .width) w)
+    where
+      product-sum : (a b k : ℕ) → (a + b) * k ≡ a * k + b * k
+      product-sum a b zero = omega arith
+      product-sum a b (suc k) = omega (arith, product-sum a b k, native.Mathlib.Nat.mul-suc (a + b) k, native.Mathlib.Nat.mul-suc a k, native.Mathlib.Nat.mul-suc b k)
+
+  pub write-none : (w : List ℕ) (i : ℕ) → write L w i [] ≡ w
+  unfolding write encode
+  write-none w i =
+      let z : i + length {A = A} [] ≡ i = omega arith in
+      ap (_++ drop ((i + length {A = A} []) * L .width) w) (append-nil (take (i * L .width) w)) ∙ ap (λ n. take (i * L .width) w ++ drop (n * L .width) w) z ∙ take-append-drop (i * L .width) w
+
+  -- a count of whole records
+  pub count-fits : (w : List ℕ) (n : ℕ) → n ≤ count L w → n * L .width ≤ length w
+  unfolding count
+  count-fits w n h = le-div-iff-mul-le (lays .some-words) .0 h
+
+  pub count-same : (w x : List ℕ) → length w ≡ length x → count L w ≡ count L x
+  unfolding count
+  count-same w x e = ap (λ n. n / L .width) e
+
+  pub whole-same : (w x : List ℕ) → length w ≡ length x → whole L w ≡ whole L x
+  unfolding whole
+  whole-same w x e = ap (λ n. lib.Dec.eqb (n % L .width) 0) e
+
+  pub records-length : (w : List ℕ) → length (records L w) ≡ count L w
+  unfolding records
+  records-length w = decode-length L (count L w) w
