@@ -3,6 +3,9 @@ pub mod Step
 pub mod Demand3
 pub mod Rows
 pub mod Examples
-pub mod Stub
 pub mod StoreLaws
 pub mod StepLaws
+pub mod SlotLaws
+pub mod ListingLaws
+pub mod Demand3Laws
+pub mod Demand3Example

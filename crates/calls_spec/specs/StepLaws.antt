@@ -16,11 +16,15 @@ use Rattle.view_spec.specs.Node.{Node, nodeLayout, Field, fieldRule, nodesRule,
 use Rattle.view_spec.specs.Build.{Built, takeField, total, parts}
 use Rattle.view_spec.specs.Read.{Place, stored, scattered, place, copy}
 use Rattle.match_spec.specs.Answer.{Wanted}
+use Rattle.match_spec.specs.RunLaws.{Inside}
 use Rattle.calls_spec.specs.Store.{Store, terms, nodes, spelled, shows, fieldTerms, capacity, countsRule, storeTerms, storeNodes, addTerms, addNodes}
 use Rattle.calls_spec.specs.Step.{Request, Call, callFromRuns, callJoin, callTake, callRest, callRange, callStartsWith, callEqual, callFlatten, callMatch, Answer, refused, built, truth, inStore, inWork, listed, After, ask, evenRule, arguments, input, build, newNodes, fieldCopy, nodeRoom, room, matchAnswer, matchProgress, afterMatch, afterFlatten, afterBuild, afterRead, accept, refuse, decide, step}
 use Rattle.calls_spec.specs.Demand3.{entered}
 use Rattle.calls_spec.specs.StoreLaws.{Good, nodes-length, terms-length, spelled-length, nodes-good, added-terms, added-nodes, added-terms-counts, added-nodes-counts, Later, later-refl}
-use Rattle.calls_spec.specs.Stub.{field-kept, holds-kept, nodes-more, holds-more, values-part, Inside, Builds, builds-runs, builds-join, builds-rest, builds-range, take-field, Settles, settles}
+use Rattle.view_spec.specs.NodeLaws.{field-kept, holds-kept, nodes-more, holds-more}
+use Rattle.term_spec.specs.TermLaws.{values-part}
+use Rattle.view_spec.specs.FieldLaws.{Builds, builds-runs, builds-join, builds-rest, builds-range, take-field}
+use Rattle.view_spec.specs.SettleLaws.{Settles, settles}
 
 -- ---- the checks ----
 

@@ -13,7 +13,9 @@ use Rattle.term_spec.specs.Term.{Term, termLayout, Run, limit}
 use Rattle.term_spec.specs.Value.{values}
 use Rattle.view_spec.specs.Node.{Node, nodeOf, nodeLayout, Field, fieldRule, nodesRule}
 use Rattle.calls_spec.specs.Store.{Store, terms, nodes, spelled, shows, fieldTerms, capacity, countsRule, storeTerms, storeNodes, addTerms, addNodes}
-use Rattle.calls_spec.specs.Stub.{field-kept, holds-kept, nodes-more, holds-more, values-length, values-part, Inside}
+use Rattle.view_spec.specs.NodeLaws.{field-kept, holds-kept, nodes-more, holds-more}
+use Rattle.term_spec.specs.TermLaws.{values-length, values-part}
+use Rattle.match_spec.specs.RunLaws.{Inside}
 
 pub node-lays : Lays nodeLayout
 unfolding nodeOf

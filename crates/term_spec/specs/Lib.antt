@@ -8,3 +8,4 @@ pub mod ListLaws
 pub mod TableLaws
 pub mod ValueLaws
 pub mod WordsLaws
+pub mod TermLaws
