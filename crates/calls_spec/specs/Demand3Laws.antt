@@ -26,7 +26,7 @@ use Rattle.calls_spec.specs.Step.{Request, Call, callFromRuns, callJoin,
 use Rattle.calls_spec.specs.Demand3.{Moment, trace, final, Start, Model, sameField?, modelTerms, entered, enterModel, model, Listing, listedRuns, candidatesOf, Firsts, Demand3}
 use Rattle.calls_spec.specs.StoreLaws.{Good, Later, later-refl, later-trans}
 use Rattle.calls_spec.specs.StepLaws.{input-none, Stepped, stepped}
-use Rattle.calls_spec.specs.ListingLaws.{Checked, checked, everyOne, startTerms, counted, consistent-listed, every-sound, Lists, lists}
+use Rattle.calls_spec.specs.ListingLaws.{Checked, checked, everyOne, startTerms, counted, consistent-listed, every-sound, wanted, Lists, lists}
 
 -- ---- moments of a list ----
 
@@ -157,9 +157,9 @@ model-entry (e ∷ b) s other f ts t m = go (sameField? f (e .0)) (λ k. model-e
 moment-args : (m : Moment) (r : Request) → Listing r m → arguments (m .before) (callMatch allOfThem r) ≡ none
 moment-args m r l = input-none (m .before) (callMatch allOfThem r) (subst (λ z. input (m .before) z ≡ none) (l .called) (l .within)) .1
 
-moment-lists : (s : Store) (calls : List Call) (m : Moment) (r : Request) → Fact s calls m → Listing r m → Lists (m .before) r (m .after)
-moment-lists s calls m r f l = subst (Lists (m .before) r) (sym (f .after-is ∙ ap (step (m .before)) (l .called)))
-    (lists (m .before) r (f .good) (moment-args m r l) (subst (λ z. input (m .before) z ≡ none) (l .called) (l .within)))
+moment-lists : (s : Store) (calls : List Call) (m : Moment) (r : Request) → Fact s calls m → Listing r m → Lists (m .before) allOfThem r (m .after)
+moment-lists s calls m r f l = subst (Lists (m .before) allOfThem r) (sym (f .after-is ∙ ap (step (m .before)) (l .called)))
+    (lists (m .before) allOfThem r (f .good) (moment-args m r l) (subst (λ z. input (m .before) z ≡ none) (l .called) (l .within)))
 
 forms-length : (s : Store) (r : Request) → length (setForm (startTerms s r)) ≡ length (startRuns r)
 forms-length s r = length-map (startTerms s r) forms ∙ length-map (startRuns r) (shows s)
@@ -171,7 +171,7 @@ every-sorted : (s : Store) (r : Request) → Sorted (Before (numberedPattern s r
 every-sorted s r = sorted (numberedPattern s r) (forms (fieldTerms s (r .field)) ∷ []) (setForm (startTerms s r)) (counted-terms s r)
 
 firsts-of : (s : Store) (calls : List Call) (m : Moment) (r : Request) → Fact s calls m → Listing r m → Firsts r m
-unfolding candidatesOf listedRuns Before
+unfolding candidatesOf listedRuns Before wanted
 firsts-of s calls m r f l =
     let k = moment-lists s calls m r f l in
     let (n, e) = k .some-first in

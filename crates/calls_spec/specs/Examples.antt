@@ -176,6 +176,12 @@ worked =
     -- 15: the slots that fit are filled, two of three; with none, the count is 0, for first match too
     ∷ same ex (match allOfThem (fd 1 2) twoExprs [] (replicate 9 9)) (listed 15 2 2) ((0 ∷ 0 ∷ 0 ∷ 2 ∷ 0 ∷ 1 ∷ 1 ∷ 1 ∷ 9 ∷ [])) []
     ∷ same ex (match headOnly (fd 1 2) twoExprs [] (9 ∷ 9 ∷ 9 ∷ [])) (listed 15 0 2) (9 ∷ 9 ∷ 9 ∷ []) []
+    -- the order of the numbers: 4 before 5; 5 before 7; 7 before 8; 13 before 11; 1 before 2
+    ∷ same ex (callRest (fd 4 1) 2) (refused 4) [] []
+    ∷ same ex (match allOfThem (fd 1 2) (3 ∷ 1 ∷ 0 ∷ 0 ∷ []) (7 ∷ 0 ∷ 1 ∷ 6 ∷ 1 ∷ []) []) (refused 5) [] []
+    ∷ same ex (match allOfThem (fd 1 2) (3 ∷ 1 ∷ 0 ∷ 0 ∷ []) (4 ∷ 0 ∷ 1 ∷ 0 ∷ 0 ∷ []) []) (refused 7) [] []
+    ∷ same ex (match allOfThem (fd 3 3) aCall [] []) (refused 13) [] []
+    ∷ same (with (0 ∷ 55296 ∷ 0 ∷ 0 ∷ []) 2 exNodes 1) (callTake (fd 0 0) 0) (refused 1) [] []
     ∷ []
 
 pub worked-calls : map (λ e. step (e .store) (e .call)) worked ≡ map (λ e. e .after) worked

@@ -9,3 +9,5 @@ pub mod SlotLaws
 pub mod ListingLaws
 pub mod Demand3Laws
 pub mod Demand3Example
+pub mod FlattenLaws
+pub mod LengthLaws

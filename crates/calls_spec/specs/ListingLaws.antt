@@ -21,13 +21,13 @@ use Rattle.match_spec.specs.Element.{Env, canonE}
 use Rattle.match_spec.specs.Pattern.{bindingName, boundRun, patternRule, bindingsRule}
 use Rattle.match_spec.specs.Consistent.{Consistent, setForm}
 use Rattle.match_spec.specs.Listing.{candidates}
-use Rattle.match_spec.specs.Walk.{cellsOf, hits}
-use Rattle.match_spec.specs.Answer.{Wanted, allOfThem, Status, called, started, absorb, numberOf}
+use Rattle.match_spec.specs.Walk.{Event, cellsOf, hits}
+use Rattle.match_spec.specs.Answer.{Wanted, allOfThem, headOnly, called, started, absorb, numberOf}
 use Rattle.match_spec.specs.SoundLaws.{Numbered}
 use Rattle.match_spec.specs.NameLaws.{numbered}
 use Rattle.match_spec.specs.ConsistentLaws.{listed}
 use Rattle.match_spec.specs.RunLaws.{Inside, Valid, valid-terms, runs-read, walk-inside}
-use Rattle.match_spec.specs.AnswerLaws.{Quiet, written-all, written-none, fitting, due, number-due, Calm, calm-or-call, calls-same, calm-same, quiet-walk, no-candidate}
+use Rattle.match_spec.specs.AnswerLaws.{Reached, Quiet, written-all, written-none, no-room, head-only, fitting, due, answered, number-due, number-head, called-number, Calm, calm-or-call, calls-same, calm-same, quiet-walk, no-candidate}
 use Rattle.match_spec.specs.KeepLaws.{HasCall}
 use Rattle.match_spec.specs.MatchLaws.{listing-shows}
 use Rattle.calls_spec.specs.Store.{Store, terms, nodes, spelled, shows, fieldTerms, capacity, addTerms}
@@ -106,6 +106,35 @@ due-not-11 (suc n) slots e = go (decLe (suc n) slots) e
     go (yes h) q = omega arith
     go (no h) q = omega arith
 
+-- How many candidates a call writes of those that n slots hold, and which it asks after.
+unfoldable pub wanted : Wanted → ℕ → ℕ
+wanted allOfThem n = n
+wanted headOnly zero = zero
+wanted headOnly (suc n) = 1
+
+unfoldable pub asked : {A : Type 0} → Wanted → List A → List A
+asked allOfThem l = l
+asked headOnly l = take 1 l
+
+asked-map : {A B : Type 0} (q : Wanted) (f : A → B) (l : List A) → map f (asked q l) ≡ asked q (map f l)
+unfolding asked
+asked-map allOfThem f l = refl
+asked-map headOnly f l = map-take f 1 l
+
+written-wanted : {E : Type 0} (q : Wanted) (n : ℕ) (l : List (Event E)) → Quiet l → (absorb q n l started) .written ≡ take (wanted q n) (hits l)
+unfolding wanted
+written-wanted allOfThem n l h = written-all n l h
+written-wanted headOnly zero l h = no-room headOnly l
+written-wanted headOnly (suc n) l h = head-only n l h
+
+number-asked : {E : Type 0} (q : Wanted) (n : ℕ) (l : List (Event E)) → Quiet l → answered q n l ≡ due (length (asked q (hits l))) n
+unfolding asked
+number-asked allOfThem n l h = number-due n l h
+number-asked headOnly n l h = number-head n l h
+
+quiet-not-11 : {E : Type 0} (q : Wanted) (n : ℕ) (l : List (Event E)) → Quiet l → answered q n l ≡ 11 → ⊥
+quiet-not-11 q n l h e = due-not-11 (length (asked q (hits l))) n (sym (number-asked q n l h) ∙ e)
+
 module _ (s : Store) (r : Request) (g : Good s) (c : Checked s r) where
   -- the terms with the settled copy
   abbrev grown : List Term
@@ -144,7 +173,7 @@ module _ (s : Store) (r : Request) (g : Good s) (c : Checked s r) where
       let z = form-cells e ∙ q in
       (map (part (values (s .names) (terms s ++ fieldCopy s (r .field)))) e, consistent-listed s r _ .0 (rw z m), z)
 
-  hits-sized : Sized (length (allNames s r)) (hits (matchEvents s r))
+  pub hits-sized : Sized (length (allNames s r)) (hits (matchEvents s r))
   hits-sized = all-of _ (hits (matchEvents s r)) (λ e m. one e (rw (form-cells e, ← hits-show) (mem-mapped (map (cellsOf (s .names) (terms s ++ fieldCopy s (r .field)))) (hits (matchEvents s r)) e m)))
     where
       one : (e : List Run) → List·Memᴰ (setForm (map (part (values (s .names) (terms s ++ fieldCopy s (r .field)))) e)) (everyOne s r) → length e ≡ length (allNames s r)
@@ -166,37 +195,46 @@ module _ (s : Store) (r : Request) (g : Good s) (c : Checked s r) where
   unfolding matchEvents
   quiet-events h = quiet-walk _ (numberedPattern s r) _ (startRuns r) (calm-same (patternOf s r) (startNames s r) h)
 
-  written-is : (matchProgress s allOfThem r) .written ≡ take (slotCount s r) (hits (matchEvents s r))
+  -- how many candidates are wanted of those that there are slots for
+  pub written-is : (q : Wanted) → (matchProgress s q r) .written ≡ take (wanted q (slotCount s r)) (hits (matchEvents s r))
   unfolding matchProgress
-  written-is = go (calm-or-call (patternOf s r))
+  written-is q = go (calm-or-call (patternOf s r))
     where
-      go : Calm (patternOf s r) ⊎ HasCall (patternOf s r) → (absorb allOfThem (slotCount s r) (matchEvents s r) started) .written ≡ take (slotCount s r) (hits (matchEvents s r))
-      go (inl h) = written-all (slotCount s r) (matchEvents s r) (quiet-events h)
-      go (inr h) = written-none allOfThem (slotCount s r) (matchEvents s r) (no-hits h) ∙ sym (ap (take (slotCount s r)) (no-hits h) ∙ take-nil (slotCount s r))
+      go : Calm (patternOf s r) ⊎ HasCall (patternOf s r) → (absorb q (slotCount s r) (matchEvents s r) started) .written ≡ take (wanted q (slotCount s r)) (hits (matchEvents s r))
+      go (inl h) = written-wanted q (slotCount s r) (matchEvents s r) (quiet-events h)
+      go (inr h) = written-none q (slotCount s r) (matchEvents s r) (no-hits h) ∙ sym (ap (take (wanted q (slotCount s r))) (no-hits h) ∙ take-nil (wanted q (slotCount s r)))
 
-  called-empty : (matchProgress s allOfThem r) .status ≡ called → (matchProgress s allOfThem r) .written ≡ []
+  called-empty : (q : Wanted) → (matchProgress s q r) .status ≡ called → (matchProgress s q r) .written ≡ []
   unfolding matchProgress numberOf
-  called-empty e = go (calm-or-call (patternOf s r))
+  called-empty q e = go (calm-or-call (patternOf s r))
     where
-      go : Calm (patternOf s r) ⊎ HasCall (patternOf s r) → (absorb allOfThem (slotCount s r) (matchEvents s r) started) .written ≡ []
-      go (inl h) = absurd (due-not-11 (length (hits (matchEvents s r))) (slotCount s r)
-          (sym (number-due (slotCount s r) (matchEvents s r) (quiet-events h)) ∙ ap (λ st. numberOf st ((absorb allOfThem (slotCount s r) (matchEvents s r) started) .written)) e))
-      go (inr h) = written-none allOfThem (slotCount s r) (matchEvents s r) (no-hits h)
+      go : Calm (patternOf s r) ⊎ HasCall (patternOf s r) → (absorb q (slotCount s r) (matchEvents s r) started) .written ≡ []
+      go (inl h) = absurd (quiet-not-11 q (slotCount s r) (matchEvents s r) (quiet-events h)
+          (ap (λ st. numberOf st ((absorb q (slotCount s r) (matchEvents s r) started) .written)) e))
+      go (inr h) = written-none q (slotCount s r) (matchEvents s r) (no-hits h)
 
-  -- the number of an accepted listing: 10, 0 or 15 by the number of consistent extensions, and 10 or 11 with a Call or Block
-  pub listing-number : Calm (patternOf s r) → numberOf ((matchProgress s allOfThem r) .status) ((matchProgress s allOfThem r) .written) ≡ due (length (everyOne s r)) (slotCount s r)
+  -- the number of an accepted call on a pattern without Call or Block: 10, 0 or 15, by the number of consistent extensions
+  pub match-number : (q : Wanted) → Calm (patternOf s r) → numberOf ((matchProgress s q r) .status) ((matchProgress s q r) .written) ≡ due (length (asked q (everyOne s r))) (slotCount s r)
   unfolding matchProgress
-  listing-number h = number-due (slotCount s r) (matchEvents s r) (quiet-events h)
-      ∙ ap (λ n. due n (slotCount s r)) (sym (length-map (hits (matchEvents s r)) (map (cellsOf (s .names) (terms s ++ fieldCopy s (r .field))))) ∙ ap length hits-show)
+  match-number q h = number-asked q (slotCount s r) (matchEvents s r) (quiet-events h)
+      ∙ ap (λ n. due n (slotCount s r)) (sym (length-map (asked q (hits (matchEvents s r))) (map (cellsOf (s .names) (terms s ++ fieldCopy s (r .field)))))
+        ∙ ap length (asked-map q (map (cellsOf (s .names) (terms s ++ fieldCopy s (r .field)))) (hits (matchEvents s r)) ∙ ap (asked q) hits-show))
+
+  -- with a Call or Block there is no candidate, and the number is 10 or 11, 11 exactly if the walk reaches one
+  pub call-number : (q : Wanted) → HasCall (patternOf s r) → ((matchProgress s q r) .written ≡ [])
+      × (((numberOf ((matchProgress s q r) .status) ((matchProgress s q r) .written) ≡ 10) ⊎ (numberOf ((matchProgress s q r) .status) ((matchProgress s q r) .written) ≡ 11))
+        × ((numberOf ((matchProgress s q r) .status) ((matchProgress s q r) .written) ≡ 11) ↔ Reached (matchEvents s r)))
+  unfolding matchProgress
+  call-number q h = (written-none q (slotCount s r) (matchEvents s r) (no-hits h), called-number q (slotCount s r) (matchEvents s r) (no-hits h))
 
   -- ---- read back from the slots that the call leaves ----
 
-  slots-read : readSlots (slotsFilled ((afterMatch s allOfThem r (matchProgress s allOfThem r)) .answer)) (slotNames ((afterMatch s allOfThem r (matchProgress s allOfThem r)) .answer))
-      ((afterMatch s allOfThem r (matchProgress s allOfThem r)) .slots) ≡ (matchProgress s allOfThem r) .written
+  slots-read : (q : Wanted) → readSlots (slotsFilled ((afterMatch s q r (matchProgress s q r)) .answer)) (slotNames ((afterMatch s q r (matchProgress s q r)) .answer))
+      ((afterMatch s q r (matchProgress s q r)) .slots) ≡ (matchProgress s q r) .written
   unfolding afterMatch
-  slots-read = answered-slots (r .slots) _ (length (allNames s r)) ((matchProgress s allOfThem r) .written)
-      (subst (Sized (length (allNames s r))) (sym written-is) (all-take _ (slotCount s r) (hits (matchEvents s r)) hits-sized))
-      (λ t. refusal-empty ((matchProgress s allOfThem r) .status) ((matchProgress s allOfThem r) .written) called-empty t)
+  slots-read q = answered-slots (r .slots) _ (length (allNames s r)) ((matchProgress s q r) .written)
+      (subst (Sized (length (allNames s r))) (sym (written-is q)) (all-take _ (wanted q (slotCount s r)) (hits (matchEvents s r)) hits-sized))
+      (λ t. refusal-empty ((matchProgress s q r) .status) ((matchProgress s q r) .written) (called-empty q) t)
 
   module _ (fits : s .termsUsed + length (fieldCopy s (r .field)) ≤ capacity termLayout (s .termWords)) where
     end-cells : (e : List Run) → setForm (map (shows (addTerms s (fieldCopy s (r .field)))) e) ≡ map (cellsOf (s .names) (terms s ++ fieldCopy s (r .field))) e
@@ -204,16 +242,16 @@ module _ (s : Store) (r : Request) (g : Good s) (c : Checked s r) where
     end-cells e = map-map forms (shows (addTerms s (fieldCopy s (r .field)))) e
         ∙ ap (λ ts. map (λ q. forms (part (values (s .names) ts) q)) e) (added-terms s (fieldCopy s (r .field)) fits)
 
-    written-forms : map setForm (map (map (shows (addTerms s (fieldCopy s (r .field))))) ((matchProgress s allOfThem r) .written)) ≡ take (slotCount s r) (everyOne s r)
-    written-forms = map-both setForm (map (shows (addTerms s (fieldCopy s (r .field))))) (map (cellsOf (s .names) (terms s ++ fieldCopy s (r .field)))) end-cells ((matchProgress s allOfThem r) .written)
-        ∙ ap (map (map (cellsOf (s .names) (terms s ++ fieldCopy s (r .field))))) written-is
-        ∙ map-take (map (cellsOf (s .names) (terms s ++ fieldCopy s (r .field)))) (slotCount s r) (hits (matchEvents s r))
-        ∙ ap (take (slotCount s r)) hits-show
+    written-forms : (q : Wanted) → map setForm (map (map (shows (addTerms s (fieldCopy s (r .field))))) ((matchProgress s q r) .written)) ≡ take (wanted q (slotCount s r)) (everyOne s r)
+    written-forms q = map-both setForm (map (shows (addTerms s (fieldCopy s (r .field))))) (map (cellsOf (s .names) (terms s ++ fieldCopy s (r .field)))) end-cells ((matchProgress s q r) .written)
+        ∙ ap (map (map (cellsOf (s .names) (terms s ++ fieldCopy s (r .field))))) (written-is q)
+        ∙ map-take (map (cellsOf (s .names) (terms s ++ fieldCopy s (r .field)))) (wanted q (slotCount s r)) (hits (matchEvents s r))
+        ∙ ap (take (wanted q (slotCount s r))) hits-show
 
-    written-inside : All (All (Inside ((addTerms s (fieldCopy s (r .field))) .termsUsed))) ((matchProgress s allOfThem r) .written)
+    written-inside : (q : Wanted) → All (All (Inside ((addTerms s (fieldCopy s (r .field))) .termsUsed))) ((matchProgress s q r) .written)
     unfolding addTerms
-    written-inside = subst (All (All (Inside (s .termsUsed + length (fieldCopy s (r .field)))))) (sym written-is)
-        (all-take _ (slotCount s r) (hits (matchEvents s r)) (subst (λ n. All (All (Inside n)) (hits (matchEvents s r)))
+    written-inside q = subst (All (All (Inside (s .termsUsed + length (fieldCopy s (r .field)))))) (sym (written-is q))
+        (all-take _ (wanted q (slotCount s r)) (hits (matchEvents s r)) (subst (λ n. All (All (Inside n)) (hits (matchEvents s r)))
         (length-append (terms s) (fieldCopy s (r .field)) ∙ ap (_+ length (fieldCopy s (r .field))) (terms-length s)) hits-inside))
 
 -- ---- the call as a whole ----
@@ -222,26 +260,26 @@ module _ (s : Store) (r : Request) (g : Good s) (c : Checked s r) where
 abbrev pub runsLeft : After → List (List Run)
 runsLeft a = readSlots (slotsFilled (a .answer)) (slotNames (a .answer)) (a .slots)
 
-pub record Lists (s : Store) (r : Request) (a : After) : Type 0 where
+pub record Lists (s : Store) (q : Wanted) (r : Request) (a : After) : Type 0 where
   pub some-first : (n : ℕ) × (map setForm (map (map (shows (a .store))) (runsLeft a)) ≡ take n (everyOne s r))
   pub inside : All (All (Inside (a .store .termsUsed))) (runsLeft a)
-  pub filled : room s (callMatch allOfThem r) ≡ none → map setForm (map (map (shows (a .store))) (runsLeft a)) ≡ take (slotCount s r) (everyOne s r)
+  pub filled : room s (callMatch q r) ≡ none → map setForm (map (map (shows (a .store))) (runsLeft a)) ≡ take (wanted q (slotCount s r)) (everyOne s r)
 
-accepted-lists : (s : Store) (r : Request) → Good s → Checked s r → s .termsUsed + length (fieldCopy s (r .field)) ≤ capacity termLayout (s .termWords)
-    → Lists s r (afterMatch s allOfThem r (matchProgress s allOfThem r))
+accepted-lists : (s : Store) (q : Wanted) (r : Request) → Good s → Checked s r → s .termsUsed + length (fieldCopy s (r .field)) ≤ capacity termLayout (s .termWords)
+    → Lists s q r (afterMatch s q r (matchProgress s q r))
 unfolding afterMatch
-accepted-lists s r g c fits =
-    let w = slots-read s r g c in
-    let f = ap (λ l. map setForm (map (map (shows (addTerms s (fieldCopy s (r .field))))) l)) w ∙ written-forms s r g c fits in
-    record { some-first = (slotCount s r, f); inside = subst (All (All (Inside ((addTerms s (fieldCopy s (r .field))) .termsUsed)))) (sym w) (written-inside s r g c fits); filled = λ h. f }
+accepted-lists s q r g c fits =
+    let w = slots-read s r g c q in
+    let f = ap (λ l. map setForm (map (map (shows (addTerms s (fieldCopy s (r .field))))) l)) w ∙ written-forms s r g c fits q in
+    record { some-first = (wanted q (slotCount s r), f); inside = subst (All (All (Inside ((addTerms s (fieldCopy s (r .field))) .termsUsed)))) (sym w) (written-inside s r g c fits q); filled = λ h. f }
 
-pub lists : (s : Store) (r : Request) → Good s → arguments s (callMatch allOfThem r) ≡ none → input s (callMatch allOfThem r) ≡ none
-    → Lists s r (step s (callMatch allOfThem r))
+pub lists : (s : Store) (q : Wanted) (r : Request) → Good s → arguments s (callMatch q r) ≡ none → input s (callMatch q r) ≡ none
+    → Lists s q r (step s (callMatch q r))
 unfolding step decide refuse slotsFilled slotNames readSlots All room accept
-lists s r g e i = go (input s (callMatch allOfThem r)) (room s (callMatch allOfThem r)) i refl
+lists s q r g e i = go (input s (callMatch q r)) (room s (callMatch q r)) i refl
   where
-    go : (o q : Option ℕ) → o ≡ none → room s (callMatch allOfThem r) ≡ q → Lists s r (decide o q s (callMatch allOfThem r))
-    go (some n) q z k = absurd (none-some (sym z))
+    go : (o p : Option ℕ) → o ≡ none → room s (callMatch q r) ≡ p → Lists s q r (decide o p s (callMatch q r))
+    go (some n) p z k = absurd (none-some (sym z))
     go none (some n) z k = record { some-first = (0, refl); inside = tt; filled = λ h. absurd (none-some (sym h ∙ k)) }
-    go none none z k = accepted-lists s r g (checked s allOfThem r e)
+    go none none z k = accepted-lists s q r g (checked s q r e)
         (leb→le _ _ (ask-none (leb (s .termsUsed + length (fieldCopy s (r .field))) (capacity termLayout (s .termWords))) 13 none k .0))

@@ -87,7 +87,7 @@ unfolding capacity
 capacity-same L lays w x e = ap (λ n. min n limit) (count-same L lays w x e)
 
 module _ {A : Type 0} (L : Layout A) (lays : Lays L) (w : List ℕ) (used : ℕ) (new : List A) (fits : used + length new ≤ capacity L w) where
-  written-length : length (write L w used new) ≡ length w
+  pub written-length : length (write L w used new) ≡ length w
   written-length = write-length L lays w used new (count-fits L lays w (used + length new) (within-count L w _ fits))
 
   written-capacity : capacity L (write L w used new) ≡ capacity L w
