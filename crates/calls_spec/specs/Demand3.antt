@@ -2,7 +2,7 @@
 -- sentences as the fields of one record. The theorem is in Demand3Laws.
 use mathlib.Core.Path.{_≡_}
 use mathlib.Core.List.{List, [], _∷_, _++_, map, List·Memᴰ}
-use mathlib.Core.Option.{Option, some, none}
+use mathlib.Core.Option.{some, none}
 use mathlib.Core.Logic.{_↔_}
 use lib.Dec.{T}
 use lib.ListN.{length, getElem?, take, drop}
@@ -15,7 +15,7 @@ use Rattle.view_spec.specs.Node.{Field}
 use Rattle.view_spec.specs.Build.{ifDec, parts}
 use Rattle.match_spec.specs.Element.{Env}
 use Rattle.match_spec.specs.Consistent.{Consistent, setForm, Before, Sorted}
-use Rattle.match_spec.specs.Answer.{Wanted, allOfThem}
+use Rattle.match_spec.specs.Answer.{allOfThem}
 use Rattle.calls_spec.specs.Store.{Store, spelled, shows, fieldTerms, countsRule, storeTerms, storeNodes}
 use Rattle.calls_spec.specs.Step.{Request, Call, callFromRuns, callJoin, callTake, callRest, callRange, callStartsWith, callEqual, callFlatten, callMatch, Answer, refused, built, truth, inStore, inWork, listed, After, patternOf, startNames, numberedPattern, startRuns, slotCount, input, room, step}
 
@@ -27,10 +27,12 @@ pub record Moment : Type 0 where
   pub call : Call
   pub after : After
 
+-- The calls of a list, each on the stores that the last one left.
 unfoldable pub trace : Store → List Call → List Moment
 trace s [] = []
 trace s (c ∷ cs) = record { before = s; call = c; after = step s c } ∷ trace ((step s c) .store) cs
 
+-- The stores at the end of a list.
 unfoldable pub final : Store → List Call → Store
 final s [] = s
 final s (c ∷ cs) = final ((step s c) .store) cs
@@ -48,6 +50,7 @@ pub record Start (s : Store) : Type 0 where
 abbrev pub Model : Type 0
 Model = List (Field × List Value)
 
+-- Whether two fields are the same node and length: an entry's name.
 unfoldable pub sameField? : (f g : Field) → Dec ((f .node ≡ g .node) × (f .len ≡ g .len))
 sameField? f g = both (ℕ-discrete (f .node) (g .node)) (ℕ-discrete (f .len) (g .len))
   where
@@ -84,6 +87,7 @@ enterModel (inStore r) b s c = b
 enterModel (inWork n) b s c = b
 enterModel (listed n k j) b s c = b
 
+-- The model after the calls of a list.
 unfoldable pub model : Model → List Moment → Model
 model b [] = b
 model b (m ∷ ms) = model (enterModel (m .after .answer) b (m .before) (m .call)) ms
@@ -95,6 +99,7 @@ pub record Listing (r : Request) (m : Moment) : Type 0 where
   pub called : m .call ≡ callMatch allOfThem r
   pub within : input (m .before) (m .call) ≡ none
 
+-- How many slots an answer says are filled.
 unfoldable pub slotsFilled : Answer → ℕ
 slotsFilled (refused n) = 0
 slotsFilled (built f) = 0
@@ -103,6 +108,7 @@ slotsFilled (inStore r) = 0
 slotsFilled (inWork n) = 0
 slotsFilled (listed n c k) = c
 
+-- How many names an answer says each slot has.
 unfoldable pub slotNames : Answer → ℕ
 slotNames (refused n) = 0
 slotNames (built f) = 0
@@ -146,6 +152,7 @@ pub record Firsts (r : Request) (m : Moment) : Type 0 where
 
 -- ---- demand 3, clause by clause ----
 
+-- The clauses, each under its own words.
 pub record Demand3 (s : Store) (calls : List Call) : Type 0 where
   -- "fields hold what the model says": every entry is what its field holds at the end, with text as spelled and bracket contents, ..
   pub entries : (f : Field) (ts : List Value) → List·Memᴰ (f, ts) (model [] (trace s calls)) → fieldTerms (final s calls) f ≡ ts

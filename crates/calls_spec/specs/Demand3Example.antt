@@ -1,9 +1,8 @@
 -- Demand 3 on one list of calls: its premises are met and what it says is seen. Two fields that hold `--`, one a run and the other a rope,
 -- are listed under `e.1 '-' e.2`; the second listing settles a copy.
 use mathlib.Core.Path.{_≡_, refl, ap}
-use mathlib.Core.List.{List, [], _∷_, _++_, map, List·Memᴰ, List·Memᴰ·head, List·Memᴰ·tail}
-use mathlib.Core.Option.{Option, some, none}
-use lib.ListN.{length, take, getElem?, replicate}
+use mathlib.Core.List.{List, [], _∷_, _++_, List·Memᴰ, List·Memᴰ·head, List·Memᴰ·tail}
+use lib.ListN.{take, getElem?, replicate}
 use Prim.Native.Nat.{ℕ}
 use native.Mathlib.Decide.{ℕ-discrete, decLe, decLt}
 use Rattle.term_spec.specs.Words.{decode, encode, count, whole, records, write}
@@ -23,7 +22,7 @@ use Rattle.match_spec.specs.Answer.{afterOne, writeHit, absorbOne, absorb, slot
 use Rattle.calls_spec.specs.Store.{terms, nodes, spelled, shows, fieldTerms, capacity, countsRule, storeTerms, storeNodes, addTerms, addNodes}
 use Rattle.calls_spec.specs.Step.{answerNumber, slotsLent, workLent, ask, evenRule, arguments, input, build, nodeRoom, room, matchEvents, matchProgress, matchAnswer, concat, fillSlots, afterMatch, afterFlatten, afterBuild, afterRead, accept, refuse, decide, step}
 use Rattle.calls_spec.specs.Demand3.{trace, final, sameField?, modelTerms, entered, enterModel, model, slotsFilled, slotNames, readSlots, listedRuns, candidatesOf}
-use Rattle.term_spec.specs.Value.{Value, char, forms}
+use Rattle.term_spec.specs.Value.{char, forms}
 use Rattle.view_spec.specs.Node.{Field}
 use Rattle.match_spec.specs.Element.{Env}
 use Rattle.match_spec.specs.Answer.{allOfThem}
@@ -78,12 +77,18 @@ record Seen : Type 0 where
   run-lists : candidatesOf listsRun ≡ (firstOne ∷ secondOne ∷ [])
   rope-lists : candidatesOf listsRope ≡ (firstOne ∷ [])
   modelled : model [] (trace store calls)
-    ≡ ((field 3 1, char 45 ∷ []) ∷ (field 2 1, char 45 ∷ []) ∷ (field 3 2, char 45 ∷ char 45 ∷ []) ∷ (field 2 1, char 45 ∷ []) ∷ (field 1 2, char 45 ∷ char 45 ∷ []) ∷ [])
+      ≡ ((field 3 1, char 45 ∷ []) ∷ (field 2 1, char 45 ∷ []) ∷ (field 3 2, char 45 ∷ char 45 ∷ []) ∷ (field 2 1, char 45 ∷ []) ∷ (field 1 2, char 45 ∷ char 45 ∷ []) ∷ [])
 
 seen : Seen
 unfolding decode encode count whole records write isLetter isDigit isNameByte every identifierText numberText variableText textRule lower table termOf runOf runRule runsRule isScalar depthK deepest bracketRule symbolRule termRuleK termRule termsRule toList fromList bracketed contents valueK valueOf values canon canons heads? list? same? sames? takesTable unknownColumn column takesRow row takes decided takes? nodeOf nilRule consRule concatRule nodeRuleK nodeRule eachNode nodesRule fieldRule meaningK meaningOf ifDec fuseHead fuseOnto fuse chainHead chain total parts fromRuns unclampK unclampOf unclamp secondK planK planOf plan grow planMakes joinBy join dropK dropOf dropPlan dropMakes dropNode shrink takeField rest range place copyAt settledAt isYes equalTerms startsWith itemOf bindingOf nameAt name? findHere find addIf add namesAfter number elementK element bindingName itemRuleK closeRule nestRuleK noneOpen itemsRule patternRule bindingRule bindingsRule onTop wrap push put Ones canonE note openLengths Lex Before Sorted guard each bindIf bind first enter leave cuts finish candidates cellsOf strip ifFits atHead through ifKnown rigidFits ends upto when withHead ifEmpty takeFirst leaveLevel finishWalk bindRun topLevel spread walk hits afterOne writeHit absorbOne absorb slotsIn numberOf terms nodes spelled shows fieldTerms capacity countsRule storeTerms storeNodes addTerms addNodes answerNumber slotsLent workLent ask evenRule arguments input build nodeRoom room matchEvents matchProgress matchAnswer concat fillSlots afterMatch afterFlatten afterBuild afterRead accept refuse decide step trace final sameField? modelTerms entered enterModel model slotsFilled slotNames readSlots listedRuns candidatesOf ℕ-discrete decLe decLt
-seen = record { starts = record { counts = tt; good-terms = tt; good-nodes = tt; node-0-alone = refl }; run-within = record { called = refl; within = refl };
-    rope-within = record { called = refl; within = refl }; run-lists = refl; rope-lists = refl; modelled = refl }
+seen = record {
+  starts = record { counts = tt; good-terms = tt; good-nodes = tt; node-0-alone = refl };
+  run-within = record { called = refl; within = refl };
+  rope-within = record { called = refl; within = refl };
+  run-lists = refl;
+  rope-lists = refl;
+  modelled = refl;
+}
 
 -- The two listings are calls of the list.
 run-there : List·Memᴰ listsRun (trace store calls)
@@ -101,5 +106,5 @@ holds = demand3 store calls (seen .starts)
 fields-agree : forms (fieldTerms (final store calls) (field 1 2)) ≡ forms (fieldTerms (final store calls) (field 3 2))
 fields-agree =
     (holds .agree listsRun listsRope (field 1 2) (field 3 2) ((7 ∷ 0 ∷ 1 ∷ 0 ∷ []) ++ (0 ∷ 45 ∷ 0 ∷ 0 ∷ []) ++ (7 ∷ 1 ∷ 1 ∷ 0 ∷ [])) [] (replicate 8 0) (replicate 4 0)
-      run-there rope-there (seen .run-within) (seen .rope-within) 0 0 firstOne firstOne
-      (ap (λ l. getElem? l 0) (seen .run-lists)) (ap (λ l. getElem? l 0) (seen .rope-lists))) .0 refl .0
+    run-there rope-there (seen .run-within) (seen .rope-within) 0 0 firstOne firstOne
+    (ap (λ l. getElem? l 0) (seen .run-lists)) (ap (λ l. getElem? l 0) (seen .rope-lists))) .0 refl .0

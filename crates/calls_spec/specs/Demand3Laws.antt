@@ -1,15 +1,14 @@
 -- Demand 3, proved: the theorem `demand3` at the end holds of every list of calls.
 use mathlib.Core.Path.{_≡_, refl, ap, ap₂, sym, _∙_, subst}
 use mathlib.Core.List.{List, [], _∷_, _++_, map, List·Memᴰ, List·Memᴰ·head, List·Memᴰ·tail, List·Memᴰ·not-nil, List·Memᴰ·cases-cons}
-use mathlib.Core.Option.{Option, some, none}
-use mathlib.Core.Logic.{_⊎_, inl, inr, _↔_}
+use mathlib.Core.Option.{some, none}
+use mathlib.Core.Logic.{_⊎_, inl, inr}
 use lib.Dec.{T}
 use lib.ListN.{length, getElem?, take, drop, length-map}
 use lib.Seq.{take-all}
-use Prim.Native.Nat.{ℕ, suc, zero, _≤_, _<_}
+use Prim.Native.Nat.{ℕ, suc, zero}
 use native.Mathlib.Omega.{arith}
 use Rattle.term_spec.specs.ListLaws.{All, all-at, maps-same, take-at?, prefix-take}
-use Rattle.term_spec.specs.Term.{Run}
 use Rattle.term_spec.specs.Value.{Value, forms}
 use Rattle.view_spec.specs.Node.{Field, fieldRule, holds}
 use Rattle.view_spec.specs.Build.{ifDec}
@@ -22,7 +21,7 @@ use Rattle.match_spec.specs.SoundLaws.{Numbered}
 use Rattle.match_spec.specs.OrderLaws.{sorted, lex-irrefl, sorted-once, same-place}
 use Rattle.match_spec.specs.RunLaws.{Inside}
 use Rattle.calls_spec.specs.Store.{Store, nodes, spelled, shows, fieldTerms}
-use Rattle.calls_spec.specs.Step.{Request, Call, callFromRuns, callJoin, callTake, callRest, callRange, callStartsWith, callEqual, callFlatten, callMatch, Answer, refused, built, truth, inStore, inWork, listed, After, items, bindings, patternOf, startNames, numberedPattern, startRuns, slotCount, arguments, input, room, step}
+use Rattle.calls_spec.specs.Step.{Request, Call, callFromRuns, callJoin, callTake, callRest, callRange, callStartsWith, callEqual, callFlatten, callMatch, Answer, refused, built, truth, inStore, inWork, listed, items, bindings, numberedPattern, startRuns, arguments, input, room, step}
 use Rattle.calls_spec.specs.Demand3.{Moment, trace, final, Start, Model, sameField?, modelTerms, entered, enterModel, model, Listing, listedRuns, candidatesOf, Firsts, Demand3}
 use Rattle.calls_spec.specs.StoreLaws.{Good, Later, later-refl, later-trans}
 use Rattle.calls_spec.specs.StepLaws.{input-none, Stepped, stepped}
@@ -138,8 +137,10 @@ model-has b (k ∷ ms) m f i e = go (λ j. model-has (enterModel (k .after .answ
     go : (List·Memᴰ m ms → (ts : List Value) × List·Memᴰ (f, ts) (model (enterModel (k .after .answer) b (k .before) (k .call)) ms)) → (m ≡ k) ⊎ List·Memᴰ m ms
         → (ts : List Value) × List·Memᴰ (f, ts) (model (enterModel (k .after .answer) b (k .before) (k .call)) ms)
     go rec (inr j) = rec j
-    go rec (inl q) = (entered (modelTerms b (k .before)) (k .before) (k .call),
-        model-keeps _ ms _ (entered-at (k .after .answer) b (k .before) (k .call) f (ap (λ z. z .after .answer) (sym q) ∙ e)))
+    go rec (inl q) = (
+      entered (modelTerms b (k .before)) (k .before) (k .call),
+      model-keeps _ ms _ (entered-at (k .after .answer) b (k .before) (k .call) f (ap (λ z. z .after .answer) (sym q) ∙ e)),
+    )
 
 model-entry : (b : Model) (s other : Store) (f : Field) (ts : List Value) → True b s → List·Memᴰ (f, ts) b → fieldTerms s f ≡ modelTerms b other f
 unfolding modelTerms All ifDec
@@ -182,11 +183,12 @@ firsts-of s calls m r f l =
       sound = every-sound (m .before) r (f .good) (checked (m .before) allOfThem r (moment-args m r l));
       order = subst (λ z. Sorted (Before (numberedPattern (m .before) r) z) (everyOne (m .before) r)) (forms-length (m .before) r) so;
       once = λ i j B a b. sorted-once (Before (numberedPattern (m .before) r) (length (setForm (startTerms (m .before) r))))
-        (λ x. lex-irrefl (openLengths (numberedPattern (m .before) r) (length (setForm (startTerms (m .before) r))) x)) (everyOne (m .before) r) i j so a b;
+          (λ x. lex-irrefl (openLengths (numberedPattern (m .before) r) (length (setForm (startTerms (m .before) r))) x)) (everyOne (m .before) r) i j so a b;
       first = e ∙ prefix-take n (everyOne (m .before) r) ∙ ap (λ z. take (length z) (everyOne (m .before) r)) (sym e)
-        ∙ ap (λ z. take z (everyOne (m .before) r)) (length-map (map (map (shows (m .after .store))) (listedRuns m)) setForm);
+          ∙ ap (λ z. take z (everyOne (m .before) r)) (length-map (map (map (shows (m .after .store))) (listedRuns m)) setForm);
       fill = λ q. k .filled (subst (λ z. room (m .before) z ≡ none) (l .called) q);
-      suffice = λ q le. k .filled (subst (λ z. room (m .before) z ≡ none) (l .called) q) ∙ take-all _ (everyOne (m .before) r) le }
+      suffice = λ q le. k .filled (subst (λ z. room (m .before) z ≡ none) (l .called) q) ∙ take-all _ (everyOne (m .before) r) le;
+    }
 
 at-map : {A B : Type 0} (f : A → B) (l : List A) (i : ℕ) {x : A} → getElem? l i ≡ some x → getElem? (map f l) i ≡ some (f x)
 at-map f [] i e = cc
@@ -213,26 +215,29 @@ stay-of : (s : Store) (calls : List Call) (m : Moment) (r : Request) → Fact s 
 unfolding candidatesOf listedRuns
 stay-of s calls m r f l =
     maps-same (All (Inside (m .after .store .termsUsed))) (map (shows (m .after .store))) (map (shows (final s calls))) (listedRuns m) (moment-lists s calls m r f l .inside)
-      (λ A a. maps-same (Inside (m .after .store .termsUsed)) (shows (m .after .store)) (shows (final s calls)) A a (λ q h. sym (f .onward .runs q h .1)))
+    (λ A a. maps-same (Inside (m .after .store .termsUsed)) (shows (m .after .store)) (shows (final s calls)) A a (λ q h. sym (f .onward .runs q h .1)))
 
 -- ---- demand 3, whole ----
 
 pub demand3 : (s : Store) (calls : List Call) → Start s → Demand3 s calls
 unfolding All
 demand3 s calls z = record {
-    entries = λ f ts i. (all-at _ (model [] (trace s calls)) (f, ts) holds-all i) .1;
-    entry-made = λ m f i e. model-has [] (trace s calls) m f i e;
-    fields = λ m f other i e. let (ts, j) = model-has [] (trace s calls) m f i e in model-entry (model [] (trace s calls)) (final s calls) other f ts holds-all j;
-    agree = λ m m′ F G pattern bindings slots slots′ i i′ l l′ k j A B a b.
+  entries = λ f ts i. (all-at _ (model [] (trace s calls)) (f, ts) holds-all i) .1;
+  entry-made = λ m f i e. model-has [] (trace s calls) m f i e;
+  fields = λ m f other i e. let (ts, j) = model-has [] (trace s calls) m f i e in model-entry (model [] (trace s calls)) (final s calls) other f ts holds-all j;
+  agree = λ m m′ F G pattern bindings slots slots′ i i′ l l′ k j A B a b.
       same-place (numberedPattern (final s calls) (ask F pattern bindings)) (forms (fieldTerms (final s calls) F)) (forms (fieldTerms (final s calls) G))
-        (setForm (startTerms (final s calls) (ask F pattern bindings))) k j (setForm A) (setForm B) (counted-terms (final s calls) (ask F pattern bindings))
-        (from-end s calls m _ k A (fact s calls m good i) l a) (from-end s calls m′ _ j B (fact s calls m′ good i′) l′ b);
-    stay = λ m r i l. stay-of s calls m r (fact s calls m good i) l;
-    firsts = λ m r i l. firsts-of s calls m r (fact s calls m good i) l }
+      (setForm (startTerms (final s calls) (ask F pattern bindings))) k j (setForm A) (setForm B) (counted-terms (final s calls) (ask F pattern bindings))
+      (from-end s calls m _ k A (fact s calls m good i) l a) (from-end s calls m′ _ j B (fact s calls m′ good i′) l′ b);
+  stay = λ m r i l. stay-of s calls m r (fact s calls m good i) l;
+  firsts = λ m r i l. firsts-of s calls m r (fact s calls m good i) l;
+}
   where
     good : Good s
     good = record { counts = z .counts; good-terms = z .good-terms; good-nodes = z .good-nodes }
+
     holds-all : True (model [] (trace s calls)) (final s calls)
     holds-all = all-true [] s calls good tt
+
     ask : Field → List ℕ → List ℕ → Request
     ask F pattern bindings = record { field = F; pattern = pattern; bindings = bindings; slots = [] }

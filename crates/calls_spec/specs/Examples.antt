@@ -1,8 +1,8 @@
 -- Worked calls, by computation: at least one for each call, and one for each refusal number from 1 to 15.
 use mathlib.Core.Path.{_≡_, refl}
 use mathlib.Core.List.{List, [], _∷_, _++_, map}
-use mathlib.Core.Bool.{Bool, true, false}
-use lib.ListN.{length, replicate}
+use mathlib.Core.Bool.{true, false}
+use lib.ListN.{replicate}
 use Prim.Native.Nat.{ℕ, suc, zero}
 use native.Mathlib.Decide.{ℕ-discrete, decLe, decLt}
 use Rattle.term_spec.specs.Words.{decode, encode, count, whole, records, write}
@@ -26,7 +26,7 @@ use Rattle.term_spec.specs.Term.{Run}
 use Rattle.view_spec.specs.Node.{Field}
 use Rattle.match_spec.specs.Answer.{Wanted, allOfThem, headOnly}
 use Rattle.calls_spec.specs.Store.{Store}
-use Rattle.calls_spec.specs.Step.{Request, Call, callFromRuns, callJoin, callTake, callRest, callRange, callStartsWith, callEqual, callFlatten, callMatch, Answer, refused, built, truth, inStore, inWork, listed, After}
+use Rattle.calls_spec.specs.Step.{Call, callFromRuns, callJoin, callTake, callRest, callRange, callStartsWith, callEqual, callFlatten, callMatch, Answer, refused, built, truth, inStore, inWork, listed, After}
 
 -- The names `12Xx`; the terms a, b, X, x, (a b), 12 and room for two more; the nodes Nil, [a b], [X x], their Concat, and room for two more.
 abbrev pub exNames : List ℕ
@@ -87,24 +87,29 @@ lettered = record { names = (97 ∷ 98 ∷ 99 ∷ 100 ∷ 101 ∷ 102 ∷ 103 �
 
 -- Each Concat doubles the one before, from two terms to 65,536, for 6.
 abbrev pub doubled : Store
-doubled = record { names = []; termWords = (0 ∷ 97 ∷ 0 ∷ 0 ∷ []) ++ (0 ∷ 98 ∷ 0 ∷ 0 ∷ []); termsUsed = 2; nodesUsed = 17;
-    nodeWords = (0 ∷ 0 ∷ 0 ∷ 0 ∷ 0 ∷ 0 ∷ [])
-    ++ (1 ∷ 0 ∷ 2 ∷ 0 ∷ 1 ∷ 2 ∷ [])
-    ++ (2 ∷ 1 ∷ 2 ∷ 1 ∷ 2 ∷ 4 ∷ [])
-    ++ (2 ∷ 2 ∷ 4 ∷ 2 ∷ 3 ∷ 8 ∷ [])
-    ++ (2 ∷ 3 ∷ 8 ∷ 3 ∷ 4 ∷ 16 ∷ [])
-    ++ (2 ∷ 4 ∷ 16 ∷ 4 ∷ 5 ∷ 32 ∷ [])
-    ++ (2 ∷ 5 ∷ 32 ∷ 5 ∷ 6 ∷ 64 ∷ [])
-    ++ (2 ∷ 6 ∷ 64 ∷ 6 ∷ 7 ∷ 128 ∷ [])
-    ++ (2 ∷ 7 ∷ 128 ∷ 7 ∷ 8 ∷ 256 ∷ [])
-    ++ (2 ∷ 8 ∷ 256 ∷ 8 ∷ 9 ∷ 512 ∷ [])
-    ++ (2 ∷ 9 ∷ 512 ∷ 9 ∷ 10 ∷ 1024 ∷ [])
-    ++ (2 ∷ 10 ∷ 1024 ∷ 10 ∷ 11 ∷ 2048 ∷ [])
-    ++ (2 ∷ 11 ∷ 2048 ∷ 11 ∷ 12 ∷ 4096 ∷ [])
-    ++ (2 ∷ 12 ∷ 4096 ∷ 12 ∷ 13 ∷ 8192 ∷ [])
-    ++ (2 ∷ 13 ∷ 8192 ∷ 13 ∷ 14 ∷ 16384 ∷ [])
-    ++ (2 ∷ 14 ∷ 16384 ∷ 14 ∷ 15 ∷ 32768 ∷ [])
-    ++ (2 ∷ 15 ∷ 32768 ∷ 15 ∷ 16 ∷ 65536 ∷ []) }
+doubled = record {
+  names = [];
+  termWords = (0 ∷ 97 ∷ 0 ∷ 0 ∷ []) ++ (0 ∷ 98 ∷ 0 ∷ 0 ∷ []);
+  termsUsed = 2;
+  nodesUsed = 17;
+  nodeWords = (0 ∷ 0 ∷ 0 ∷ 0 ∷ 0 ∷ 0 ∷ [])
+      ++ (1 ∷ 0 ∷ 2 ∷ 0 ∷ 1 ∷ 2 ∷ [])
+      ++ (2 ∷ 1 ∷ 2 ∷ 1 ∷ 2 ∷ 4 ∷ [])
+      ++ (2 ∷ 2 ∷ 4 ∷ 2 ∷ 3 ∷ 8 ∷ [])
+      ++ (2 ∷ 3 ∷ 8 ∷ 3 ∷ 4 ∷ 16 ∷ [])
+      ++ (2 ∷ 4 ∷ 16 ∷ 4 ∷ 5 ∷ 32 ∷ [])
+      ++ (2 ∷ 5 ∷ 32 ∷ 5 ∷ 6 ∷ 64 ∷ [])
+      ++ (2 ∷ 6 ∷ 64 ∷ 6 ∷ 7 ∷ 128 ∷ [])
+      ++ (2 ∷ 7 ∷ 128 ∷ 7 ∷ 8 ∷ 256 ∷ [])
+      ++ (2 ∷ 8 ∷ 256 ∷ 8 ∷ 9 ∷ 512 ∷ [])
+      ++ (2 ∷ 9 ∷ 512 ∷ 9 ∷ 10 ∷ 1024 ∷ [])
+      ++ (2 ∷ 10 ∷ 1024 ∷ 10 ∷ 11 ∷ 2048 ∷ [])
+      ++ (2 ∷ 11 ∷ 2048 ∷ 11 ∷ 12 ∷ 4096 ∷ [])
+      ++ (2 ∷ 12 ∷ 4096 ∷ 12 ∷ 13 ∷ 8192 ∷ [])
+      ++ (2 ∷ 13 ∷ 8192 ∷ 13 ∷ 14 ∷ 16384 ∷ [])
+      ++ (2 ∷ 14 ∷ 16384 ∷ 14 ∷ 15 ∷ 32768 ∷ [])
+      ++ (2 ∷ 15 ∷ 32768 ∷ 15 ∷ 16 ∷ 65536 ∷ []);
+}
 
 abbrev pub worked : List Worked
 worked =

@@ -1,21 +1,21 @@
 -- `flatten`: the records that it shows, in the store or in the work buffer, are the field's; and each word that it does not copy stays.
 use mathlib.Core.Path.{_≡_, refl, ap, sym, _∙_}
-use mathlib.Core.List.{List, [], _∷_, _++_}
+use mathlib.Core.List.{List, []}
 use mathlib.Core.Option.{Option, some, none}
-use lib.Dec.{T, leb, leb→le}
-use lib.ListN.{length, take, drop}
-use Prim.Native.Nat.{ℕ, suc, zero, _+_, _*_, _≤_}
+use lib.Dec.{T}
+use lib.ListN.{length}
+use Prim.Native.Nat.{ℕ, _+_}
 use native.Mathlib.Omega.{arith}
 use Rattle.term_spec.specs.ValueLaws.{none-some}
-use Rattle.term_spec.specs.Words.{decode, count, write}
-use Rattle.term_spec.specs.WordsLaws.{term-lays, decode-write, write-length, count-fits}
-use Rattle.term_spec.specs.Term.{Term, termLayout, Run, part}
+use Rattle.term_spec.specs.Words.{decode, write}
+use Rattle.term_spec.specs.WordsLaws.{term-lays, decode-write}
+use Rattle.term_spec.specs.Term.{Term, termLayout, part}
 use Rattle.view_spec.specs.Node.{Field, fieldRule, nodesRule, holds}
 use Rattle.view_spec.specs.Read.{Place, stored, scattered, place, copyAt}
 use Rattle.view_spec.specs.NodeLaws.{holds-length}
 use Rattle.view_spec.specs.ReadLaws.{place-shows}
 use Rattle.calls_spec.specs.Store.{Store, terms, nodes, storeNodes}
-use Rattle.calls_spec.specs.Step.{Call, callFlatten, Answer, refused, built, truth, inStore, inWork, listed, After, ask, arguments, input, fieldCopy, room, afterFlatten, accept, decide, step}
+use Rattle.calls_spec.specs.Step.{callFlatten, Answer, refused, built, truth, inStore, inWork, listed, arguments, input, fieldCopy, room, afterFlatten, accept, decide, step}
 use Rattle.calls_spec.specs.StoreLaws.{Good, terms-length}
 use Rattle.calls_spec.specs.StepLaws.{ask-none, input-none}
 
@@ -49,6 +49,7 @@ flatten-shows s f w i r = go (input s (callFlatten f w)) (room s (callFlatten f 
   where
     facts : Good s × (arguments s (callFlatten f w) ≡ none)
     facts = input-none s (callFlatten f w) i
+
     go : (o p : Option ℕ) → o ≡ none → p ≡ none → shownRecords s ((decide o p s (callFlatten f w)) .work) ((decide o p s (callFlatten f w)) .answer) ≡ holds (terms s) (nodes s) f
     go (some n) p e q = absurd (none-some (sym e))
     go none (some n) e q = absurd (none-some (sym q))

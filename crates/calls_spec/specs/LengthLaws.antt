@@ -1,18 +1,18 @@
 -- Every lent slice keeps its length: what a call writes lies inside it.
 use mathlib.Core.Path.{_≡_, refl, ap, sym, _∙_}
-use mathlib.Core.List.{List, [], _∷_, _++_}
+use mathlib.Core.List.{List, [], _∷_}
 use mathlib.Core.Option.{Option, some, none}
-use lib.Dec.{T, leb, leb→le}
-use lib.ListN.{length, take, length-append, length-take}
-use Prim.Native.Nat.{ℕ, suc, zero, _+_, _*_, _/_, _≤_, _<_}
-use native.Mathlib.Nat.{suc-mul, mul-le-mul-right, le-div-iff-mul-le, mul-comm, mul-assoc}
+use lib.Dec.{leb, leb→le}
+use lib.ListN.{length, length-append, length-take}
+use Prim.Native.Nat.{ℕ, suc, zero, _+_, _*_, _≤_}
+use native.Mathlib.Nat.{suc-mul, le-div-iff-mul-le, mul-comm, mul-assoc}
 use native.Mathlib.Omega.{arith}
 use Rattle.term_spec.specs.ListLaws.{All, all-take}
-use Rattle.term_spec.specs.Words.{count, write}
+use Rattle.term_spec.specs.Words.{count}
 use Rattle.term_spec.specs.WordsLaws.{term-lays, run-lays, write-length, count-fits}
 use Rattle.term_spec.specs.Term.{termLayout, Run, runLayout}
-use Rattle.view_spec.specs.Node.{Field, fieldRule, nodeLayout}
-use Rattle.view_spec.specs.Read.{Place, stored, scattered, place}
+use Rattle.view_spec.specs.Node.{Field, nodeLayout}
+use Rattle.view_spec.specs.Read.{Place, stored, scattered}
 use Rattle.match_spec.specs.Answer.{Wanted, allOfThem, headOnly, slotsIn}
 use Rattle.match_spec.specs.Walk.{hits}
 use Rattle.calls_spec.specs.Store.{Store, capacity, addTerms, addNodes}
@@ -64,16 +64,24 @@ match-lengths s q r g e k =
     let c = checked s q r e in
     let fits = leb→le _ _ (ask-none (leb (s .termsUsed + length (fieldCopy s (r .field))) (capacity termLayout (s .termWords))) 13 none k .0) in
     let w = written-is s r g c q in
-    record { term-words = written-length termLayout term-lays (s .termWords) (s .termsUsed) (fieldCopy s (r .field)) fits; node-words = refl; work-words = refl;
+    record {
+      term-words = written-length termLayout term-lays (s .termWords) (s .termsUsed) (fieldCopy s (r .field)) fits;
+      node-words = refl;
+      work-words = refl;
       slot-words = filled-length (r .slots) (length (allNames s r)) ((matchProgress s q r) .written)
-        (rw w (all-take _ (wanted q (slotCount s r)) (hits (matchEvents s r)) (hits-sized s r g c)))
-        (rw (w, length-take) (omega (arith, wanted-few q (slotCount s r)))) }
+          (rw w (all-take _ (wanted q (slotCount s r)) (hits (matchEvents s r)) (hits-sized s r g c)))
+          (rw (w, length-take) (omega (arith, wanted-few q (slotCount s r))));
+    }
 
 flatten-lengths : (s : Store) (f : Field) (w : List ℕ) (p : Place) → length (fieldCopy s f) ≤ count termLayout w → SameLengths s (callFlatten f w) (afterFlatten s f w p)
 unfolding afterFlatten slotsLent workLent
 flatten-lengths s f w (stored r) h = record { term-words = refl; node-words = refl; slot-words = refl; work-words = refl }
-flatten-lengths s f w scattered h = record { term-words = refl; node-words = refl; slot-words = refl;
-    work-words = write-length termLayout term-lays w 0 (fieldCopy s f) (count-fits termLayout term-lays w (0 + length (fieldCopy s f)) (omega arith)) }
+flatten-lengths s f w scattered h = record {
+  term-words = refl;
+  node-words = refl;
+  slot-words = refl;
+  work-words = write-length termLayout term-lays w 0 (fieldCopy s f) (count-fits termLayout term-lays w (0 + length (fieldCopy s f)) (omega arith));
+}
 
 build-lengths : (s : Store) (c : Call) → nodeRoom s c ≡ none → length (slotsLent c) ≡ 0 → length (workLent c) ≡ 0 → SameLengths s c (afterBuild s c)
 unfolding afterBuild addNodes

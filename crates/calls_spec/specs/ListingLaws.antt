@@ -3,22 +3,21 @@ use mathlib.Core.Path.{_≡_, refl, ap, ap₂, sym, _∙_, subst}
 use mathlib.Core.List.{List, [], _∷_, _++_, map, List·Memᴰ, List·Memᴰ·head, List·Memᴰ·tail}
 use mathlib.Core.Option.{Option, some, none}
 use mathlib.Core.Logic.{_⊎_, inl, inr, _↔_}
-use mathlib.Core.Bool.{Bool, true, false, _&&_, _||_}
-use lib.Dec.{T, leb, eqb, leb→le}
-use lib.ListN.{length, take, drop, length-append, length-map}
+use lib.Dec.{T, leb, leb→le}
+use lib.ListN.{length, take, length-append, length-map}
 use lib.Seq.{take-nil}
-use Prim.Native.Nat.{ℕ, suc, zero, _+_, _≤_, _<_}
+use Prim.Native.Nat.{ℕ, suc, zero, _+_, _≤_}
 use native.Mathlib.Decide.{decLe}
 use native.Mathlib.Omega.{arith}
 use Rattle.term_spec.specs.BoolLaws.{both-of}
 use Rattle.term_spec.specs.ListLaws.{map-take, map-map, mem-map, All, all-take, all-weaken, all-one, maps-same}
 use Rattle.term_spec.specs.Term.{Term, termLayout, Run, part, runRule, runsRule}
-use Rattle.term_spec.specs.Value.{Value, values, forms}
+use Rattle.term_spec.specs.Value.{values, forms}
 use Rattle.term_spec.specs.ValueLaws.{none-some}
-use Rattle.view_spec.specs.Node.{Field, fieldRule}
+use Rattle.view_spec.specs.Node.{fieldRule}
 use Rattle.view_spec.specs.Read.{settledRun}
 use Rattle.match_spec.specs.Element.{Env, canonE}
-use Rattle.match_spec.specs.Pattern.{bindingName, boundRun, patternRule, bindingsRule}
+use Rattle.match_spec.specs.Pattern.{bindingName, boundRun}
 use Rattle.match_spec.specs.Consistent.{Consistent, setForm}
 use Rattle.match_spec.specs.Listing.{candidates}
 use Rattle.match_spec.specs.Walk.{Event, cellsOf, hits}
@@ -26,18 +25,18 @@ use Rattle.match_spec.specs.Answer.{Wanted, allOfThem, headOnly, called, starte
 use Rattle.match_spec.specs.SoundLaws.{Numbered}
 use Rattle.match_spec.specs.NameLaws.{numbered}
 use Rattle.match_spec.specs.ConsistentLaws.{listed}
-use Rattle.match_spec.specs.RunLaws.{Inside, Valid, valid-terms, runs-read, walk-inside}
+use Rattle.match_spec.specs.RunLaws.{Inside, runs-read, walk-inside}
 use Rattle.match_spec.specs.AnswerLaws.{Reached, Quiet, written-all, written-none, no-room, head-only, fitting, due, answered, number-due, number-head, called-number, Calm, calm-or-call, calls-same, calm-same, quiet-walk, no-candidate}
 use Rattle.match_spec.specs.KeepLaws.{HasCall}
 use Rattle.match_spec.specs.MatchLaws.{listing-shows}
 use Rattle.calls_spec.specs.Store.{Store, terms, nodes, spelled, shows, fieldTerms, capacity, addTerms}
-use Rattle.calls_spec.specs.Step.{Request, Call, callMatch, After, items, bindings, patternOf, startNames, allNames, numberedPattern, startRuns, slotCount, ask, arguments, input, fieldCopy, room, matchEvents, matchProgress, afterMatch, accept, decide, refuse, step, answerNumber}
+use Rattle.calls_spec.specs.Step.{Request, callMatch, After, bindings, patternOf, startNames, allNames, numberedPattern, startRuns, slotCount, arguments, input, fieldCopy, room, matchEvents, matchProgress, afterMatch, accept, decide, refuse, step}
 use Rattle.calls_spec.specs.Demand3.{slotsFilled, slotNames, readSlots}
 use Rattle.calls_spec.specs.StoreLaws.{Good, terms-length, added-terms}
 use Rattle.calls_spec.specs.StepLaws.{ask-none, settled}
 use Rattle.calls_spec.specs.SlotLaws.{Sized, refusal-empty, answered-slots}
 use Rattle.view_spec.specs.SettleLaws.{Settles}
-use Rattle.term_spec.specs.TermLaws.{values-part}
+use Rattle.term_spec.specs.TermLaws.{Valid, valid-terms, values-part}
 
 -- ---- what the checks of a listing tell ----
 
@@ -218,12 +217,12 @@ module _ (s : Store) (r : Request) (g : Good s) (c : Checked s r) where
   unfolding matchProgress
   match-number q h = number-asked q (slotCount s r) (matchEvents s r) (quiet-events h)
       ∙ ap (λ n. due n (slotCount s r)) (sym (length-map (asked q (hits (matchEvents s r))) (map (cellsOf (s .names) (terms s ++ fieldCopy s (r .field)))))
-        ∙ ap length (asked-map q (map (cellsOf (s .names) (terms s ++ fieldCopy s (r .field)))) (hits (matchEvents s r)) ∙ ap (asked q) hits-show))
+      ∙ ap length (asked-map q (map (cellsOf (s .names) (terms s ++ fieldCopy s (r .field)))) (hits (matchEvents s r)) ∙ ap (asked q) hits-show))
 
   -- with a Call or Block there is no candidate, and the number is 10 or 11, 11 exactly if the walk reaches one
   pub call-number : (q : Wanted) → HasCall (patternOf s r) → ((matchProgress s q r) .written ≡ [])
       × (((numberOf ((matchProgress s q r) .status) ((matchProgress s q r) .written) ≡ 10) ⊎ (numberOf ((matchProgress s q r) .status) ((matchProgress s q r) .written) ≡ 11))
-        × ((numberOf ((matchProgress s q r) .status) ((matchProgress s q r) .written) ≡ 11) ↔ Reached (matchEvents s r)))
+      × ((numberOf ((matchProgress s q r) .status) ((matchProgress s q r) .written) ≡ 11) ↔ Reached (matchEvents s r)))
   unfolding matchProgress
   call-number q h = (written-none q (slotCount s r) (matchEvents s r) (no-hits h), called-number q (slotCount s r) (matchEvents s r) (no-hits h))
 

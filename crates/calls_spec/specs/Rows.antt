@@ -2,8 +2,7 @@
 -- the listing, with names, identifiers and numbers by their text.
 use mathlib.Core.Path.{_≡_, refl}
 use mathlib.Core.List.{List, [], _∷_, _++_, map}
-use mathlib.Core.Option.{Option, some, none}
-use lib.ListN.{length, replicate}
+use lib.ListN.{replicate}
 use Prim.Native.Nat.{ℕ}
 use native.Mathlib.Decide.{ℕ-discrete, decLe, decLt}
 use Rattle.term_spec.specs.Words.{decode, encode, count, whole, records, write}
@@ -23,12 +22,12 @@ use Rattle.match_spec.specs.Answer.{afterOne, writeHit, absorbOne, absorb, slot
 use Rattle.calls_spec.specs.Store.{terms, nodes, spelled, shows, fieldTerms, capacity, countsRule, storeTerms, storeNodes, addTerms, addNodes}
 use Rattle.calls_spec.specs.Step.{answerNumber, slotsLent, workLent, ask, evenRule, arguments, input, build, nodeRoom, room, matchEvents, matchProgress, matchAnswer, concat, fillSlots, afterMatch, afterFlatten, afterBuild, afterRead, accept, refuse, decide, step}
 use Rattle.calls_spec.specs.Demand3.{trace, final, sameField?, modelTerms, entered, enterModel, model, slotsFilled, slotNames, readSlots, listedRuns, candidatesOf}
-use Rattle.term_spec.specs.Value.{Value, char, ident, num, unknown}
+use Rattle.term_spec.specs.Value.{char, unknown}
 use Rattle.view_spec.specs.Node.{Field, emptyField}
 use Rattle.match_spec.specs.Element.{Env}
 use Rattle.match_spec.specs.Answer.{allOfThem}
 use Rattle.calls_spec.specs.Store.{Store}
-use Rattle.calls_spec.specs.Step.{Call, callFromRuns, callMatch, Answer, refused, built, truth, inStore, inWork, listed, After}
+use Rattle.calls_spec.specs.Step.{callFromRuns, callMatch, Answer, refused, built, truth, inStore, inWork, listed, After}
 use Rattle.calls_spec.specs.Demand3.{Moment}
 
 -- The names `12XxA007`, and a store of terms for every row.

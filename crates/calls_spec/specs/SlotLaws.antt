@@ -5,8 +5,7 @@ use mathlib.Core.Bool.{Bool, true, false, _||_}
 use lib.Dec.{T, eqb}
 use lib.ListN.{length, drop}
 use lib.Seq.{drop-at}
-use Prim.Native.Nat.{ℕ, suc, zero, _+_, _*_}
-use native.Mathlib.Omega.{arith}
+use Prim.Native.Nat.{ℕ, _+_, _*_}
 use Rattle.term_spec.specs.ListLaws.{All}
 use Rattle.term_spec.specs.Words.{encode, decode, write}
 use Rattle.term_spec.specs.WordsLaws.{run-lays, encode-length, decode-encode, encode-append}
@@ -24,10 +23,10 @@ unfolding readSlots concat All
 read-encoded k [] x a = refl
 read-encoded k (c ∷ cs) x a =
     let e : encode runLayout (c ++ concat cs) ++ x ≡ encode runLayout c ++ (encode runLayout (concat cs) ++ x)
-        = ap (_++ x) (encode-append runLayout run-lays c (concat cs)) ∙ append-assoc (encode runLayout c) (encode runLayout (concat cs)) x in
+    = ap (_++ x) (encode-append runLayout run-lays c (concat cs)) ∙ append-assoc (encode runLayout c) (encode runLayout (concat cs)) x in
     let l : length (encode runLayout c) ≡ k * 2 = encode-length runLayout run-lays c ∙ ap (_* 2) (a .0) in
     ap₂ _∷_ (ap₂ (decode runLayout) (sym (a .0)) e ∙ decode-encode runLayout run-lays c (encode runLayout (concat cs) ++ x))
-      (ap (readSlots (length cs) k) (ap (drop (k * 2)) e ∙ drop-at (encode runLayout c) (encode runLayout (concat cs) ++ x) (k * 2) l) ∙ read-encoded k cs x (a .1))
+    (ap (readSlots (length cs) k) (ap (drop (k * 2)) e ∙ drop-at (encode runLayout c) (encode runLayout (concat cs) ++ x) (k * 2) l) ∙ read-encoded k cs x (a .1))
 
 pub read-filled : (w : List ℕ) (k : ℕ) (cs : List (List Run)) → Sized k cs → readSlots (length cs) k (fillSlots w cs) ≡ cs
 unfolding fillSlots write
@@ -50,6 +49,7 @@ answered-slots w n k cs a h = go (eqb n 10 || eqb n 11) h
   where
     answer : Bool → Answer
     answer b = elim b as (λ z. Answer) [ true ↦ refused n | false ↦ listed n (length cs) k ]
+
     go : (b : Bool) → (T b → cs ≡ []) → readSlots (slotsFilled (answer b)) (slotNames (answer b)) (fillSlots w cs) ≡ cs
     go true q = sym (q tt)
     go false q = read-filled w k cs a

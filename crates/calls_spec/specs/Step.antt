@@ -64,6 +64,7 @@ pub record After : Type 0 where
   pub slots : List ℕ
   pub work : List ℕ
 
+-- The words that a call lends as slots.
 unfoldable pub slotsLent : Call → List ℕ
 slotsLent (callFromRuns w) = []
 slotsLent (callJoin f g) = []
@@ -75,6 +76,7 @@ slotsLent (callEqual f g) = []
 slotsLent (callFlatten f w) = []
 slotsLent (callMatch q m) = m .slots
 
+-- The words that a call lends as work buffer.
 unfoldable pub workLent : Call → List ℕ
 workLent (callFromRuns w) = []
 workLent (callJoin f g) = []
@@ -88,9 +90,11 @@ workLent (callMatch q m) = []
 
 -- ---- what a request asks, read with the names of the store ----
 
+-- The pattern records of a request.
 abbrev pub items : Request → List Item
 items m = records itemLayout (m .pattern)
 
+-- The starting bindings of a request.
 abbrev pub bindings : Request → List Binding
 bindings m = records bindingLayout (m .bindings)
 
@@ -98,23 +102,29 @@ bindings m = records bindingLayout (m .bindings)
 abbrev pub patternOf : Store → Request → List (Element (List ℕ))
 patternOf s m = elements (s .names) (items m)
 
+-- The names of the start.
 abbrev pub startNames : Store → Request → List (List ℕ)
 startNames s m = bindingNames (s .names) (bindings m)
 
+-- The names of start and pattern together: the entries of a candidate.
 abbrev pub allNames : Store → Request → List (List ℕ)
 allNames s m = namesAfter (patternOf s m) (startNames s m)
 
+-- The pattern as the walk takes it: literals in canonical form, names as entry numbers.
 abbrev pub numberedPattern : Store → Request → List (Element ℕ)
 numberedPattern s m = number (map canonE (patternOf s m)) (startNames s m)
 
+-- The runs of the start.
 abbrev pub startRuns : Request → List Run
 startRuns m = map boundRun (bindings m)
 
+-- The slots that fit whole.
 abbrev pub slotCount : Store → Request → ℕ
 slotCount s m = slotsIn (length (m .slots)) (length (allNames s m))
 
 -- ---- refusals because of the input: the first of 1 to 9 that applies ----
 
+-- A check: its number if the test fails, else what comes next.
 unfoldable pub ask : Bool → ℕ → Option ℕ → Option ℕ
 ask true n next = next
 ask false n next = some n
@@ -166,6 +176,7 @@ build s (callEqual f g) = record { nodes = nodes s; field = emptyField }
 build s (callFlatten f w) = record { nodes = nodes s; field = emptyField }
 build s (callMatch q m) = record { nodes = nodes s; field = emptyField }
 
+-- The nodes that a call makes.
 abbrev pub newNodes : Store → Call → List Node
 newNodes s c = drop (s .nodesUsed) ((build s c) .nodes)
 
@@ -173,9 +184,11 @@ newNodes s c = drop (s .nodesUsed) ((build s c) .nodes)
 abbrev pub fieldCopy : Store → Field → List Term
 fieldCopy s f = copy (terms s) (nodes s) f
 
+-- "12 NodesFull: the nodes which the rules below make for this call exceed the unused ones."
 unfoldable pub nodeRoom : Store → Call → Option ℕ
 nodeRoom s c = ask (leb (s .nodesUsed + length (newNodes s c)) (capacity nodeLayout (s .nodeWords))) 12 none
 
+-- The first of 12 to 14 that applies. "13 TermsFull: a settled copy exceeds the unused terms. 14 WorkShort: a copy exceeds the work buffer."
 unfoldable pub room : Store → Call → Option ℕ
 room s (callFromRuns w) = nodeRoom s (callFromRuns w)
 room s (callJoin f g) = nodeRoom s (callJoin f g)
@@ -194,6 +207,7 @@ unfoldable pub matchEvents : Store → Request → List (Event (List Run))
 matchEvents s m =
     walk (runs (s .names) (terms s ++ fieldCopy s (m .field))) (numberedPattern s m) (settledRun (terms s) (nodes s) (m .field) ∷ []) (startRuns m)
 
+-- The candidates that go into the slots, and why it stopped.
 unfoldable pub matchProgress : Store → Wanted → Request → Progress (List Run)
 matchProgress s q m = absorb q (slotCount s m) (matchEvents s m) started
 
@@ -201,6 +215,7 @@ matchProgress s q m = absorb q (slotCount s m) (matchEvents s m) started
 unfoldable pub matchAnswer : ℕ → ℕ → ℕ → Answer
 matchAnswer n c k = elim (eqb n 10 || eqb n 11) [ true ↦ refused n | false ↦ listed n c k ]
 
+-- Lists one after another.
 unfoldable pub concat : {A : Type 0} → List (List A) → List A
 concat [] = []
 concat (x ∷ l) = x ++ concat l
@@ -209,21 +224,29 @@ concat (x ∷ l) = x ++ concat l
 unfoldable pub fillSlots : List ℕ → List (List Run) → List ℕ
 fillSlots w candidates = write runLayout w 0 (concat candidates)
 
+-- What a listing or first match leaves; "10, 11 and 15 keep the settled copy".
 unfoldable pub afterMatch : Store → Wanted → Request → Progress (List Run) → After
-afterMatch s q m o = record { answer = matchAnswer (numberOf (o .status) (o .written)) (length (o .written)) (length (allNames s m));
-    store = addTerms s (fieldCopy s (m .field)); slots = fillSlots (m .slots) (o .written); work = [] }
+afterMatch s q m o = record {
+  answer = matchAnswer (numberOf (o .status) (o .written)) (length (o .written)) (length (allNames s m));
+  store = addTerms s (fieldCopy s (m .field));
+  slots = fillSlots (m .slots) (o .written);
+  work = [];
+}
 
 -- "`flatten` shows a part of the term store or a part of the work buffer"
 unfoldable pub afterFlatten : Store → Field → List ℕ → Place → After
 afterFlatten s f w (stored r) = record { answer = inStore r; store = s; slots = []; work = w }
 afterFlatten s f w scattered = record { answer = inWork (f .len); store = s; slots = []; work = write termLayout w 0 (fieldCopy s f) }
 
+-- What a call that builds leaves.
 unfoldable pub afterBuild : Store → Call → After
 afterBuild s c = record { answer = built ((build s c) .field); store = addNodes s (newNodes s c); slots = []; work = [] }
 
+-- What a call that only reads leaves.
 unfoldable pub afterRead : Store → Bool → After
 afterRead s b = record { answer = truth b; store = s; slots = []; work = [] }
 
+-- What a call leaves that none of 1 to 9 and 12 to 14 refuses.
 unfoldable pub accept : Store → Call → After
 accept s (callFromRuns w) = afterBuild s (callFromRuns w)
 accept s (callJoin f g) = afterBuild s (callJoin f g)
@@ -245,5 +268,6 @@ decide (some n) r s c = refuse s c n
 decide none (some n) s c = refuse s c n
 decide none none s c = accept s c
 
+-- One call on the lent stores.
 unfoldable pub step : Store → Call → After
 step s c = decide (input s c) (room s c) s c

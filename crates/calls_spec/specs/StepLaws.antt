@@ -1,24 +1,22 @@
 -- One call: what it leaves is within the rules, keeps every field and run, and the field that it answers holds what the model enters.
 use mathlib.Core.Path.{_≡_, refl, ap, ap₂, sym, _∙_, subst}
-use mathlib.Core.List.{List, [], _∷_, _++_, map, append-nil}
+use mathlib.Core.List.{List, [], _++_}
 use mathlib.Core.Option.{Option, some, none}
 use mathlib.Core.Bool.{Bool, true, false, _&&_, _||_}
 use lib.Dec.{T, leb, eqb, leb→le}
-use lib.ListN.{length, take, drop, length-append}
+use lib.ListN.{length, take, drop}
 use lib.Seq.{drop-at}
-use Prim.Native.Nat.{ℕ, _+_, _≤_, _<_}
+use Prim.Native.Nat.{ℕ, _+_, _≤_}
 use native.Mathlib.Omega.{arith}
 use Rattle.term_spec.specs.BoolLaws.{both-of}
 use Rattle.term_spec.specs.Words.{records}
-use Rattle.term_spec.specs.Term.{Term, termLayout, Run, runLayout, runsRule, limit}
+use Rattle.term_spec.specs.Term.{Term, termLayout, runLayout, runsRule, limit}
 use Rattle.term_spec.specs.Value.{Value}
 use Rattle.view_spec.specs.Node.{Node, nodeLayout, Field, fieldRule, nodesRule, holds}
-use Rattle.view_spec.specs.Build.{Built, takeField, total, parts}
-use Rattle.view_spec.specs.Read.{Place, stored, scattered, place, copy}
-use Rattle.match_spec.specs.Answer.{Wanted}
-use Rattle.match_spec.specs.RunLaws.{Inside}
+use Rattle.view_spec.specs.Build.{takeField, total}
+use Rattle.view_spec.specs.Read.{Place, stored, scattered, place}
 use Rattle.calls_spec.specs.Store.{Store, terms, nodes, spelled, shows, fieldTerms, capacity, countsRule, storeTerms, storeNodes, addTerms, addNodes}
-use Rattle.calls_spec.specs.Step.{Request, Call, callFromRuns, callJoin, callTake, callRest, callRange, callStartsWith, callEqual, callFlatten, callMatch, Answer, refused, built, truth, inStore, inWork, listed, After, ask, evenRule, arguments, input, build, newNodes, fieldCopy, nodeRoom, room, matchAnswer, matchProgress, afterMatch, afterFlatten, afterBuild, afterRead, accept, refuse, decide, step}
+use Rattle.calls_spec.specs.Step.{Call, callFromRuns, callJoin, callTake, callRest, callRange, callStartsWith, callEqual, callFlatten, callMatch, Answer, refused, built, truth, inStore, inWork, listed, After, ask, evenRule, arguments, input, build, newNodes, fieldCopy, nodeRoom, room, matchAnswer, afterMatch, afterFlatten, afterBuild, afterRead, accept, refuse, decide, step}
 use Rattle.calls_spec.specs.Demand3.{entered}
 use Rattle.calls_spec.specs.StoreLaws.{Good, nodes-length, terms-length, spelled-length, nodes-good, added-terms, added-nodes, added-terms-counts, added-nodes-counts, Later, later-refl}
 use Rattle.view_spec.specs.NodeLaws.{field-kept, holds-kept, nodes-more, holds-more}
@@ -68,12 +66,15 @@ made s c l g b e =
     let ns : nodes (addNodes s (newNodes s c)) ≡ (build s c) .nodes = added-nodes s (newNodes s c) fits ∙ nodes-then-new s ((build s c) .nodes) new q in
     let sp = same-spelled s (newNodes s c) in
     record {
-      later = record { same-names = refl;
+      later = record {
+        same-names = refl;
         good = record { counts = added-nodes-counts s (newNodes s c) (g .counts) fits; good-terms = g .good-terms; good-nodes = rw ns (subst (λ n. T (nodesRule n ((build s c) .nodes))) (spelled-length s) (b .good)) };
         fields = λ f h. (rw (ns, q) (field-kept (nodes s) new f h), ap₂ (λ x y. holds x y f) sp (ns ∙ q) ∙ holds-kept (spelled s) (nodes s) new f h);
-        runs = λ r h. (h, ap (λ z. take (r .len) (drop (r .start) z)) sp) };
+        runs = λ r h. (h, ap (λ z. take (r .len) (drop (r .start) z)) sp);
+      };
       field = rw ns (b .field);
-      shown = ap₂ (λ x y. holds x y ((build s c) .field)) sp ns ∙ b .shows }
+      shown = ap₂ (λ x y. holds x y ((build s c) .field)) sp ns ∙ b .shows;
+    }
 
 -- ---- terms added ----
 
@@ -99,12 +100,20 @@ later-settled s f g h fits =
     let ts = added-terms s (fieldCopy s f) fits in
     let ns = same-nodes s (fieldCopy s f) in
     let sp = spelled-after s f fits z in
-    record { same-names = refl;
-      good = record { counts = added-terms-counts s (fieldCopy s f) (g .counts) fits; good-terms = rw ts (z .good);
-        good-nodes = rw ns (nodes-more (s .termsUsed) (s .termsUsed + length (fieldCopy s f)) (nodes s) (omega arith) (g .good-nodes)) };
+    record {
+      same-names = refl;
+      good = record {
+        counts = added-terms-counts s (fieldCopy s f) (g .counts) fits;
+        good-terms = rw ts (z .good);
+        good-nodes = rw ns (nodes-more (s .termsUsed) (s .termsUsed + length (fieldCopy s f)) (nodes s) (omega arith) (g .good-nodes));
+      };
       fields = λ k q. (rw ns q, ap₂ (λ x y. holds x y k) sp ns ∙ holds-more (spelled s) (z .more) (nodes s) k (nodes-good s g));
-      runs = λ r q. (omega (arith, q), ap (λ x. take (r .len) (drop (r .start) (Rattle.term_spec.specs.Value.values (s .names) x))) ts
-        ∙ values-part (s .names) (terms s) (fieldCopy s f) r (rw (terms-length s) q)) }
+      runs = λ r q. (
+        omega (arith, q),
+        ap (λ x. take (r .len) (drop (r .start) (Rattle.term_spec.specs.Value.values (s .names) x))) ts
+            ∙ values-part (s .names) (terms s) (fieldCopy s f) r (rw (terms-length s) q),
+      );
+    }
 
 -- ---- one call ----
 
@@ -117,9 +126,11 @@ built-same e = cc
 
 built-made : (s : Store) (c : Call) → Made s c (entered (fieldTerms s) s c) → Stepped s c (afterBuild s c)
 unfolding afterBuild
-built-made s c m = record { later = m .later;
-    builds = λ f e. let q = built-same e in
-      (subst (λ z. T (fieldRule (nodes (addNodes s (newNodes s c))) z)) q (m .field), subst (λ z. fieldTerms (addNodes s (newNodes s c)) z ≡ entered (fieldTerms s) s c) q (m .shown)) }
+built-made s c m = record {
+  later = m .later;
+  builds = λ f e. let q = built-same e in
+      (subst (λ z. T (fieldRule (nodes (addNodes s (newNodes s c))) z)) q (m .field), subst (λ z. fieldTerms (addNodes s (newNodes s c)) z ≡ entered (fieldTerms s) s c) q (m .shown));
+}
 
 -- an answer that is no field
 unfoldable pub NoField : Answer → Type 0

@@ -1,20 +1,18 @@
 -- Laws of the lent stores: what is read after records were added, and what later states of the stores keep.
-use mathlib.Core.Path.{_≡_, refl, ap, ap₂, sym, _∙_}
-use mathlib.Core.List.{List, [], _∷_, _++_}
+use mathlib.Core.Path.{_≡_, refl, ap, _∙_}
+use mathlib.Core.List.{List, _++_}
 use mathlib.Core.Bool.{Bool, _&&_}
 use lib.Dec.{T, leb, leb→le, le→leb}
-use lib.ListN.{length, drop, length-append}
-use Prim.Native.Nat.{ℕ, _+_, _*_, _≤_, _<_, min}
+use lib.ListN.{length}
+use Prim.Native.Nat.{ℕ, _+_, _≤_, min}
 use native.Mathlib.Omega.{arith}
 use Rattle.term_spec.specs.BoolLaws.{both-of, and-of}
 use Rattle.term_spec.specs.Words.{Layout, decode, count, whole, write}
 use Rattle.term_spec.specs.WordsLaws.{Lays, term-lays, decode-length, decode-write, write-length, count-fits, count-same, whole-same}
 use Rattle.term_spec.specs.Term.{Term, termLayout, Run, limit}
-use Rattle.term_spec.specs.Value.{values}
 use Rattle.view_spec.specs.Node.{Node, nodeOf, nodeLayout, Field, fieldRule, nodesRule}
 use Rattle.calls_spec.specs.Store.{Store, terms, nodes, spelled, shows, fieldTerms, capacity, countsRule, storeTerms, storeNodes, addTerms, addNodes}
-use Rattle.view_spec.specs.NodeLaws.{field-kept, holds-kept, nodes-more, holds-more}
-use Rattle.term_spec.specs.TermLaws.{values-length, values-part}
+use Rattle.term_spec.specs.TermLaws.{values-length}
 use Rattle.match_spec.specs.RunLaws.{Inside}
 
 pub node-lays : Lays nodeLayout
@@ -51,7 +49,7 @@ pub counts-of : (s : Store) → T (countsRule s) → Counts s
 unfolding countsRule
 counts-of s h =
     let (a, b, c, d, e) = five-of (whole termLayout (s .termWords)) (whole nodeLayout (s .nodeWords)) (leb (length (s .names)) limit)
-        (leb (s .termsUsed) (capacity termLayout (s .termWords))) (leb (s .nodesUsed) (capacity nodeLayout (s .nodeWords))) h in
+    (leb (s .termsUsed) (capacity termLayout (s .termWords))) (leb (s .nodesUsed) (capacity nodeLayout (s .nodeWords))) h in
     record { whole-terms = a; whole-nodes = b; few-names = c; terms-fit = leb→le _ _ d; nodes-fit = leb→le _ _ e }
 
 pub of-counts : (s : Store) → Counts s → T (countsRule s)
@@ -113,15 +111,25 @@ pub added-terms-counts : (s : Store) (new : List Term) → T (countsRule s) → 
 unfolding addTerms
 added-terms-counts s new g h =
     let c = counts-of s g in
-    of-counts _ (record { whole-terms = written-whole termLayout term-lays (s .termWords) (s .termsUsed) new h (c .whole-terms); whole-nodes = c .whole-nodes;
-      few-names = c .few-names; terms-fit = rw (written-capacity termLayout term-lays (s .termWords) (s .termsUsed) new h) h; nodes-fit = c .nodes-fit })
+    of-counts _ (record {
+      whole-terms = written-whole termLayout term-lays (s .termWords) (s .termsUsed) new h (c .whole-terms);
+      whole-nodes = c .whole-nodes;
+      few-names = c .few-names;
+      terms-fit = rw (written-capacity termLayout term-lays (s .termWords) (s .termsUsed) new h) h;
+      nodes-fit = c .nodes-fit;
+    })
 
 pub added-nodes-counts : (s : Store) (new : List Node) → T (countsRule s) → s .nodesUsed + length new ≤ capacity nodeLayout (s .nodeWords) → T (countsRule (addNodes s new))
 unfolding addNodes
 added-nodes-counts s new g h =
     let c = counts-of s g in
-    of-counts _ (record { whole-nodes = written-whole nodeLayout node-lays (s .nodeWords) (s .nodesUsed) new h (c .whole-nodes); whole-terms = c .whole-terms;
-      few-names = c .few-names; nodes-fit = rw (written-capacity nodeLayout node-lays (s .nodeWords) (s .nodesUsed) new h) h; terms-fit = c .terms-fit })
+    of-counts _ (record {
+      whole-nodes = written-whole nodeLayout node-lays (s .nodeWords) (s .nodesUsed) new h (c .whole-nodes);
+      whole-terms = c .whole-terms;
+      few-names = c .few-names;
+      nodes-fit = rw (written-capacity nodeLayout node-lays (s .nodeWords) (s .nodesUsed) new h) h;
+      terms-fit = c .terms-fit;
+    })
 
 -- ---- what a later state of the stores keeps ----
 
@@ -135,6 +143,9 @@ pub later-refl : (s : Store) → Good s → Later s s
 later-refl s g = record { same-names = refl; good = g; fields = λ f h. (h, refl); runs = λ r h. (h, refl) }
 
 pub later-trans : {a b c : Store} → Later a b → Later b c → Later a c
-later-trans p q = record { same-names = q .same-names ∙ p .same-names; good = q .good;
-    fields = λ f h. let (h1, e1) = p .fields f h in let (h2, e2) = q .fields f h1 in (h2, e2 ∙ e1);
-    runs = λ r h. let (h1, e1) = p .runs r h in let (h2, e2) = q .runs r h1 in (h2, e2 ∙ e1) }
+later-trans p q = record {
+  same-names = q .same-names ∙ p .same-names;
+  good = q .good;
+  fields = λ f h. let (h1, e1) = p .fields f h in let (h2, e2) = q .fields f h1 in (h2, e2 ∙ e1);
+  runs = λ r h. let (h1, e1) = p .runs r h in let (h2, e2) = q .runs r h1 in (h2, e2 ∙ e1);
+}

@@ -2,7 +2,7 @@
 use mathlib.Core.Path.{_≡_}
 use mathlib.Core.List.{List, [], _∷_, _++_, map, List·Memᴰ}
 use mathlib.Core.Logic.{_⊎_}
-use lib.ListN.{length, getD}
+use lib.ListN.{length}
 use Prim.Native.Nat.{ℕ, suc, _<_, max}
 use native.Mathlib.Decide.{decLt}
 use Rattle.term_spec.specs.Value.{forms}
@@ -34,6 +34,7 @@ unfoldable pub note : {P : Type 0} → Dec P → ℕ → List ℕ → List ℕ
 note (yes h) n l = l
 note (no h) n l = n ∷ l
 
+-- The lengths of the e-variables that the first k entries leave open, by first occurrence.
 unfoldable pub openLengths : List (Element ℕ) → ℕ → Env → List ℕ
 openLengths [] k B = []
 openLengths (lit v ∷ p) k B = openLengths p k B
@@ -49,6 +50,7 @@ Lex [] l = ⊥
 Lex (x ∷ xs) [] = ⊥
 Lex (x ∷ xs) (y ∷ ys) = (x < y) ⊎ ((x ≡ y) × Lex xs ys)
 
+-- The order of two binding sets.
 unfoldable pub Before : List (Element ℕ) → ℕ → Env → Env → Type 0
 Before p k A B = Lex (openLengths p k A) (openLengths p k B)
 

@@ -1,6 +1,6 @@
--- A pattern as a list of elements, putting bindings into it, and consistent extensions (01, "Trying a pattern").
+-- A pattern as a list of elements, and putting values into it (01, "Trying a pattern").
 use mathlib.Core.Path.{_≡_}
-use mathlib.Core.List.{List, [], _∷_, _++_, map}
+use mathlib.Core.List.{List, [], _∷_, _++_}
 use lib.Dec.{T}
 use lib.ListN.{getD}
 use Prim.Native.Nat.{ℕ}
@@ -17,14 +17,17 @@ pub data Element (N : Type 0) : Type 0 where
 abbrev pub Level : Type 0
 Level = List Value
 
+-- The levels of brackets that are open, innermost first.
 abbrev pub Levels : Type 0
 Levels = List (List Value)
 
+-- The value of each entry, in order.
 abbrev pub Env : Type 0
 Env = List (List Value)
 
 -- ---- putting values into a pattern: from its end to its start, the levels that are open there ----
 
+-- A change of the innermost level.
 unfoldable pub onTop : (Level → Level) → Levels → Levels
 onTop f [] = []
 onTop f (t ∷ r) = f t ∷ r

@@ -17,3 +17,5 @@ pub mod MatchLaws
 pub mod RustSplits
 pub mod RustSplitsLaws
 pub mod RustSplitsExamples
+pub mod PatternExamples
+pub mod WalkExamples

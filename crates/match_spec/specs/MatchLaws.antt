@@ -18,7 +18,8 @@ use Rattle.match_spec.specs.OrderLaws.{sorted, same-place}
 use Rattle.match_spec.specs.WalkLaws.{walk-lists}
 use Rattle.match_spec.specs.NameLaws.{numbered}
 use Rattle.match_spec.specs.ConsistentLaws.{listed}
-use Rattle.match_spec.specs.RunLaws.{Valid, runs-read}
+use Rattle.match_spec.specs.RunLaws.{runs-read}
+use Rattle.term_spec.specs.TermLaws.{Valid}
 
 -- ---- the listing of one field ----
 

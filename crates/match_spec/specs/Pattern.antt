@@ -18,12 +18,15 @@ pub record Item : Type 0 where
   pub b : ℕ
   pub c : ℕ
 
+-- The pattern record that four words mean.
 unfoldable pub itemOf : List ℕ → Item
 itemOf w = record { kind = getD w 0 0; a = getD w 1 0; b = getD w 2 0; c = getD w 3 0 }
 
+-- The pattern record's width stands here alone.
 abbrev pub itemLayout : Layout Item
 itemLayout = record { width = 4; read = itemOf; words = λ t. t .kind ∷ t .a ∷ t .b ∷ t .c ∷ [] }
 
+-- What is read where there is no record; the rules keep it from being met.
 abbrev pub noItem : Item
 noItem = record { kind = 0; a = 0; b = 0; c = 0 }
 
@@ -35,12 +38,15 @@ pub record Binding : Type 0 where
   pub start : ℕ
   pub len : ℕ
 
+-- The binding that five words mean.
 unfoldable pub bindingOf : List ℕ → Binding
 bindingOf w = record { kind = getD w 0 0; offset = getD w 1 0; size = getD w 2 0; start = getD w 3 0; len = getD w 4 0 }
 
+-- The binding record's width stands here alone.
 abbrev pub bindingLayout : Layout Binding
 bindingLayout = record { width = 5; read = bindingOf; words = λ b. b .kind ∷ b .offset ∷ b .size ∷ b .start ∷ b .len ∷ [] }
 
+-- "run start, run length"
 abbrev pub boundRun : Binding → Run
 boundRun b = record { start = b .start; len = b .len }
 
@@ -50,12 +56,15 @@ boundRun b = record { start = b .start; len = b .len }
 abbrev pub Name : Type 0
 Name = List ℕ
 
+-- The name of a kind whose text is the n bytes at o.
 unfoldable pub nameAt : List ℕ → ℕ → ℕ → ℕ → Name
 nameAt names kind o n = kind ∷ map lower (textAt names o n)
 
+-- Whether two names are one.
 unfoldable pub name? : Discrete Name
 name? = list? ℕ-discrete
 
+-- The place of a name that is the first, or is found after it.
 unfoldable pub findHere : {P : Type 0} → Dec P → ℕ → ℕ
 findHere (yes h) n = zero
 findHere (no h) n = suc n
@@ -65,10 +74,12 @@ unfoldable pub find : Name → List Name → ℕ
 find x [] = zero
 find x (y ∷ t) = findHere (name? x y) (find x t)
 
+-- A table as it is, or with one more name.
 unfoldable pub addIf : {P : Type 0} → Dec P → Name → List Name → List Name
 addIf (yes h) x t = t
 addIf (no h) x t = t ++ (x ∷ [])
 
+-- A name's first occurrence puts it at the end of the table.
 unfoldable pub add : Name → List Name → List Name
 add x t = addIf (decLt (find x t) (length t)) x t
 
@@ -106,9 +117,11 @@ elementK (suc (suc (suc (suc (suc (suc zero)))))) names t = one term (nameAt nam
 elementK (suc (suc (suc (suc (suc (suc (suc zero))))))) names t = many (nameAt names 7 (t .a) (t .b))
 elementK (suc (suc (suc (suc (suc (suc (suc (suc k)))))))) names t = call
 
+-- What a pattern record means, with its text.
 unfoldable pub element : List ℕ → Item → Element Name
 element names t = elementK (t .kind) names t
 
+-- What a pattern means.
 abbrev pub elements : List ℕ → List Item → List (Element Name)
 elements names p = map (element names) p
 
@@ -116,6 +129,7 @@ elements names p = map (element names) p
 unfoldable pub bindingName : List ℕ → Binding → Name
 bindingName names b = nameAt names (b .kind) (b .offset) (b .size)
 
+-- The names of starting bindings, in their order.
 abbrev pub bindingNames : List ℕ → List Binding → List Name
 bindingNames names start = map (bindingName names) start
 
@@ -149,6 +163,7 @@ nestRuleK (suc (suc (suc zero))) all t i opened rest = ltb (length opened) 32 &&
 nestRuleK (suc (suc (suc (suc zero)))) all t i opened rest = closeRule all t i opened rest
 nestRuleK (suc (suc (suc (suc (suc k))))) all t i opened rest = rest opened
 
+-- Every bracket is closed.
 unfoldable pub noneOpen : List ℕ → Bool
 noneOpen [] = true
 noneOpen (o ∷ opened) = false

@@ -2,48 +2,20 @@
 use mathlib.Core.Path.{_≡_, refl, ap, sym, _∙_}
 use mathlib.Core.List.{List, [], _∷_, _++_, head-eq-of-cons-eq, nil≢cons}
 use mathlib.Core.Option.{some}
-use mathlib.Core.Bool.{Bool, _&&_}
-use lib.Dec.{T, leb→le, leb, eqb}
-use lib.ListN.{length, getD, take, drop, length-map, length-append, length-take}
+use lib.ListN.{length, getD, take, drop, length-map, length-take}
 use lib.Seq.{drop-drop}
 use Prim.Native.Nat.{ℕ, suc, zero, _+_, _-_, _≤_, _<_}
 use native.Mathlib.Omega.{arith}
-use Rattle.term_spec.specs.Term.{Term, Run, noRun, noTerm, part, contentsRun, termsRule, termRule, termRuleK, bracketRule, deepest}
+use Rattle.term_spec.specs.Term.{Term, Run, noRun, noTerm, part, contentsRun}
 use Rattle.term_spec.specs.Value.{Value, char, bracketed, contents, canon, forms, valueK, valueOf, values}
-use Rattle.term_spec.specs.BoolLaws.{both-of}
-use Rattle.term_spec.specs.ListLaws.{map-take, map-drop, take-within, drop-take, part-below, part-kept, All}
-use Rattle.term_spec.specs.TableLaws.{table-at, table-length, table-kept}
+use Rattle.term_spec.specs.ListLaws.{map-take, map-drop, take-within, drop-take, part-below, All}
+use Rattle.term_spec.specs.TableLaws.{table-at, table-length}
+use Rattle.term_spec.specs.TermLaws.{Valid, values-part}
 use Rattle.term_spec.specs.ValueLaws.{contents-bracketed, none-some, contents-canon}
 use Rattle.match_spec.specs.Element.{Element, Level}
 use Rattle.match_spec.specs.Walk.{cellsOf, runs, walk, hits}
 use Rattle.match_spec.specs.WalkLaws.{Reads}
 use Rattle.match_spec.specs.KeepLaws.{walk-keeps}
-
--- A bracket's contents end at or below its own number.
-unfoldable pub Valid : List Term → Type 0
-Valid ts = (i : ℕ) → i < length ts → (getD ts i noTerm) .kind ≡ 3 → (getD ts i noTerm) .a + (getD ts i noTerm) .b ≤ i
-
-bracket-low : (k : ℕ) (names : List ℕ) (below : List Term) (t : Term) → k ≡ 3 → T (termRuleK k names below t) → t .a + t .b ≤ length below
-unfolding termRuleK bracketRule
-bracket-low k names below t e h = leb→le (t .a + t .b) (length below) ((both-of low deep ((both-of (low && deep) (leb (t .c) 255) (rw e at h)) .0)) .0)
-  where
-    low : Bool
-    low = leb (t .a + t .b) (length below)
-
-    deep : Bool
-    deep = eqb (t .c) (suc (deepest (part below (contentsRun t))))
-
-valid-from : (names : List ℕ) (below ts : List Term) (i : ℕ) → T (termsRule names below ts) → i < length ts → (getD ts i noTerm) .kind ≡ 3
-    → (getD ts i noTerm) .a + (getD ts i noTerm) .b ≤ length below + i
-unfolding termsRule termRule
-valid-from names below [] i h lt e = absurd (omega arith)
-valid-from names below (t ∷ ts) zero h lt e = omega (arith, bracket-low (t .kind) names below t e ((both-of (termRuleK (t .kind) names below t) _ h) .0))
-valid-from names below (t ∷ ts) (suc i) h lt e =
-    omega (arith, valid-from names (below ++ (t ∷ [])) ts i ((both-of (termRuleK (t .kind) names below t) _ h) .1) (omega arith) e, length-append below (t ∷ []))
-
-pub valid-terms : (names : List ℕ) (ts : List Term) → T (termsRule names [] ts) → Valid ts
-unfolding Valid
-valid-terms names ts h i lt e = omega (arith, valid-from names [] ts i h lt e)
 
 -- ---- how runs read ----
 
@@ -106,10 +78,8 @@ module _ (names : List ℕ) (ts : List Term) where
 
 -- A run of the used terms shows the same after terms are added.
 pub cells-kept : (names : List ℕ) (ts more : List Term) (r : Run) → r .start + r .len ≤ length ts → cellsOf names (ts ++ more) r ≡ cellsOf names ts r
-unfolding cellsOf values
-cells-kept names ts more r h =
-    let (new, e) = table-kept (valueOf names) ts more in
-    ap (λ z. forms (part z r)) e ∙ ap forms (part-kept (values names ts) new (r .start) (r .len) (omega (arith, table-length (valueOf names) ts [])))
+unfolding cellsOf
+cells-kept names ts more r h = ap forms (values-part names ts more r h)
 
 -- ---- runs within the used terms ----
 
@@ -124,6 +94,7 @@ inner-inside names ts valid r l c e = let (lt, k, z) = bracket-at names ts r l c
 pub walk-inside : (names : List ℕ) (ts : List Term) → Valid ts → (p : List (Element ℕ)) (ls env : List Run) → All (Inside (length ts)) ls → All (Inside (length ts)) env
     → All (All (Inside (length ts))) (hits (walk (runs names ts) p ls env))
 walk-inside names ts valid = walk-keeps (runs names ts) (Inside (length ts)) (record {
-    front-kept = λ k r le h. omega (arith, cells-few names ts r);
-    back-kept = λ k r le h. omega (arith, cells-few names ts r);
-    inner-kept = λ r l c e h. inner-inside names ts valid r l c e })
+  front-kept = λ k r le h. omega (arith, cells-few names ts r);
+  back-kept = λ k r le h. omega (arith, cells-few names ts r);
+  inner-kept = λ r l c e h. inner-inside names ts valid r l c e;
+})

@@ -2,7 +2,7 @@
 use mathlib.Core.List.{List, [], _∷_, _++_, map}
 use mathlib.Core.Option.{Option, some, none}
 use mathlib.Core.Bool.{Bool, true, false}
-use lib.ListN.{length, getD, take, drop}
+use lib.ListN.{length, getD}
 use Prim.Native.Nat.{ℕ, suc, zero, _+_, _-_, _<_}
 use native.Mathlib.Decide.{decLt}
 use Rattle.term_spec.specs.Term.{Term, Run, noRun, noTerm, part, contentsRun}
@@ -29,13 +29,15 @@ pub record Reading (R : Type 0) : Type 0 where
 unfoldable pub cellsOf : List ℕ → List Term → Run → Level
 cellsOf names ts r = forms (part (values names ts) r)
 
+-- Runs of a term store: start and length.
 abbrev pub runs : List ℕ → List Term → Reading Run
 runs names ts = record {
-    cells = cellsOf names ts;
-    front = λ k r. record { start = r .start; len = k };
-    back = λ k r. record { start = r .start + k; len = r .len - k };
-    inner = λ r. contentsRun (getD ts (r .start) noTerm);
-    nothing = noRun }
+  cells = cellsOf names ts;
+  front = λ k r. record { start = r .start; len = k };
+  back = λ k r. record { start = r .start + k; len = r .len - k };
+  inner = λ r. contentsRun (getD ts (r .start) noTerm);
+  nothing = noRun;
+}
 
 -- ---- projection ----
 
@@ -45,14 +47,17 @@ strip [] c = some c
 strip (v ∷ x) [] = none
 strip (v ∷ x) (w ∷ c) = elim (same? v w) [ yes h ↦ strip x c | no h ↦ none ]
 
+-- Goes on where the decision says yes.
 unfoldable pub ifFits : {P : Type 0} → Dec P → Bool → Bool
 ifFits (yes h) b = b
 ifFits (no h) b = false
 
+-- Goes on with the first term and the rest.
 unfoldable pub atHead : Level → (Value → Level → Bool) → Bool
 atHead [] f = false
 atHead (v ∷ c) f = f v c
 
+-- Goes on with what there is, if there is something.
 unfoldable pub through : Option Level → (Level → Bool) → Bool
 through none f = false
 through (some l) f = f l
@@ -98,14 +103,17 @@ unfoldable pub upto : {B : Type 0} → (ℕ → List B) → ℕ → List B
 upto f zero = f zero
 upto f (suc m) = f zero ++ upto (λ k. f (suc k)) m
 
+-- A list, if a test holds.
 unfoldable pub when : {A : Type 0} → Bool → List A → List A
 when true l = l
 when false l = []
 
+-- Goes on with the first term of a level.
 unfoldable pub withHead : {B : Type 0} → Level → (Value → List B) → List B
 withHead [] f = []
 withHead (v ∷ c) f = f v
 
+-- A list, if a level has ended.
 unfoldable pub ifEmpty : {B : Type 0} → Level → List B → List B
 ifEmpty [] l = l
 ifEmpty (v ∷ c) l = []
@@ -127,10 +135,12 @@ finishWalk rd [] env = []
 finishWalk rd (r ∷ []) env = ifEmpty (rd .cells r) (hit env ∷ [])
 finishWalk rd (r ∷ (q ∷ st)) env = []
 
+-- Entry n gets the run x: a known entry must show equal terms, a new one is added.
 unfoldable pub bindRun : {R B : Type 0} → Reading R → (n : ℕ) → R → (List R → List B) → (env : List R) → Dec (n < length env) → List B
 bindRun rd n x f env (yes h) = guard (sames? (rd .cells (getD env n (rd .nothing))) (rd .cells x)) (f env)
 bindRun rd n x f env (no h) = f (env ++ (x ∷ []))
 
+-- Goes on with the innermost level.
 unfoldable pub topLevel : {R B : Type 0} → List R → (R → List R → List B) → List B
 topLevel [] f = []
 topLevel (r ∷ st) f = f r st

@@ -1,9 +1,8 @@
 -- Tests that hold, as facts: how a rule written as a test is taken apart and put together.
-use mathlib.Core.Path.{_≡_, refl, sym, _∙_}
-use mathlib.Core.Bool.{Bool, true, false, _&&_, _||_}
-use lib.Dec.{T, leb, ltb, eqb, leb→le, le→leb, ltb→lt, lt→ltb, eqb→eq, eqb-refl}
-use Prim.Native.Nat.{ℕ, _≤_, _<_}
-use native.Mathlib.Omega.{arith}
+use mathlib.Core.Path.{_≡_, refl}
+use mathlib.Core.Bool.{Bool, true, false, _&&_}
+use lib.Dec.{T, eqb, eqb-refl}
+use Prim.Native.Nat.{ℕ}
 
 pub both-of : (a b : Bool) → T (a && b) → T a × T b
 both-of true b h = (tt, h)

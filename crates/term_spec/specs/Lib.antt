@@ -9,3 +9,4 @@ pub mod TableLaws
 pub mod ValueLaws
 pub mod WordsLaws
 pub mod TermLaws
+pub mod TermExamples

@@ -1,11 +1,11 @@
 -- Laws of lists that the library does not have.
 use mathlib.Core.Path.{_≡_, refl, ap, ap₂, sym, _∙_}
-use mathlib.Core.List.{List, [], _∷_, _++_, map, append-assoc, List·Memᴰ, List·Memᴰ·head, List·Memᴰ·tail, List·Memᴰ·not-nil, List·Memᴰ·cases-cons}
+use mathlib.Core.List.{List, [], _∷_, _++_, map, List·Memᴰ, List·Memᴰ·head, List·Memᴰ·tail, List·Memᴰ·not-nil, List·Memᴰ·cases-cons}
 use mathlib.Core.Logic.{_⊎_, inl, inr}
-use mathlib.Core.Option.{Option, some, none}
-use lib.ListN.{length, getD, getElem?, take, drop, length-append, length-take, length-drop}
-use lib.Seq.{take-append-le, drop-append-le, take-take, take-nil, drop-drop, length-take-le, take-append-add, drop-append-add}
-use Prim.Native.Nat.{ℕ, suc, zero, _+_, _-_, _≤_, _<_, min}
+use mathlib.Core.Option.{some}
+use lib.ListN.{length, getElem?, take, drop, length-drop}
+use lib.Seq.{take-append-le, drop-append-le, take-take, take-nil, length-take-le, take-append-add, drop-append-add}
+use Prim.Native.Nat.{ℕ, suc, zero, _+_, _-_, _≤_}
 use native.Mathlib.Omega.{arith}
 
 pub map-take : {A B : Type 0} (f : A → B) (n : ℕ) (l : List A) → map f (take n l) ≡ take n (map f l)

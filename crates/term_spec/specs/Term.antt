@@ -14,6 +14,7 @@ pub record Term : Type 0 where
   pub b : ℕ
   pub c : ℕ
 
+-- The term that four words mean.
 unfoldable pub termOf : List ℕ → Term
 termOf w = record { kind = getD w 0 0; a = getD w 1 0; b = getD w 2 0; c = getD w 3 0 }
 
@@ -21,6 +22,7 @@ termOf w = record { kind = getD w 0 0; a = getD w 1 0; b = getD w 2 0; c = getD 
 abbrev pub termLayout : Layout Term
 termLayout = record { width = 4; read = termOf; words = λ t. t .kind ∷ t .a ∷ t .b ∷ t .c ∷ [] }
 
+-- What is read where there is no term; the rules keep it from being met.
 abbrev pub noTerm : Term
 noTerm = record { kind = 0; a = 0; b = 0; c = 0 }
 
@@ -29,12 +31,15 @@ pub record Run : Type 0 where
   pub start : ℕ
   pub len : ℕ
 
+-- The run that two words mean.
 unfoldable pub runOf : List ℕ → Run
 runOf w = record { start = getD w 0 0; len = getD w 1 0 }
 
+-- "start, length": two words.
 abbrev pub runLayout : Layout Run
 runLayout = record { width = 2; read = runOf; words = λ r. r .start ∷ r .len ∷ [] }
 
+-- The empty run at 0 ("length 0 gives start 0").
 abbrev pub noRun : Run
 noRun = record { start = 0; len = 0 }
 
@@ -46,6 +51,7 @@ part xs r = take (r .len) (drop (r .start) xs)
 unfoldable pub runRule : ℕ → Run → Bool
 runRule used r = leb (r .start + r .len) used
 
+-- Every run of a list ends within the used terms.
 unfoldable pub runsRule : ℕ → List Run → Bool
 runsRule used [] = true
 runsRule used (r ∷ rs) = runRule used r && runsRule used rs
@@ -66,10 +72,12 @@ depthK (suc (suc zero)) t = 0
 depthK (suc (suc (suc zero))) t = t .c
 depthK (suc (suc (suc (suc k)))) t = 0
 
+-- The deepest bracket among terms, 0 if there is none.
 unfoldable pub deepest : List Term → ℕ
 deepest [] = 0
 deepest (t ∷ ts) = max (depthK (t .kind) t) (deepest ts)
 
+-- "contents are the run of b terms from term a"
 abbrev pub contentsRun : Term → Run
 contentsRun t = record { start = t .a; len = t .b }
 
@@ -94,6 +102,7 @@ termRuleK (suc (suc (suc zero))) names below t = bracketRule below t
 termRuleK (suc (suc (suc (suc zero)))) names below t = leb (t .a) 2
 termRuleK (suc (suc (suc (suc (suc k))))) names below t = false
 
+-- The rule of a term among the terms below it.
 unfoldable pub termRule : List ℕ → List Term → Term → Bool
 termRule names below t = termRuleK (t .kind) names below t
 

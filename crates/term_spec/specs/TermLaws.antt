@@ -3,7 +3,7 @@ use mathlib.Core.Path.{_≡_, refl, ap, sym, _∙_}
 use mathlib.Core.List.{List, [], _∷_, _++_, append-nil}
 use mathlib.Core.Bool.{_&&_}
 use lib.Dec.{T, leb, eqb, leb→le, le→leb, eqb→eq}
-use lib.ListN.{length, getD, take, length-append}
+use lib.ListN.{length, getD, take, length-append, length-take}
 use lib.Seq.{append-snoc}
 use Prim.Native.Nat.{ℕ, suc, zero, _+_, _≤_, _<_}
 use native.Mathlib.Omega.{arith}
@@ -40,12 +40,15 @@ bracket-rule : (below : List Term) (t : Term) → BracketFacts below t → T (br
 unfolding bracketRule
 bracket-rule below t r =
     and-of (leb (t .a + t .b) (length below) && eqb (t .c) (suc (deepest (part below (contentsRun t))))) (leb (t .c) 255)
-      (and-of (leb (t .a + t .b) (length below)) (eqb (t .c) (suc (deepest (part below (contentsRun t))))) (le→leb _ _ (r .inside)) (eq→eqb _ _ (r .depth)))
-      (le→leb _ _ (r .shallow))
+    (and-of (leb (t .a + t .b) (length below)) (eqb (t .c) (suc (deepest (part below (contentsRun t))))) (le→leb _ _ (r .inside)) (eq→eqb _ _ (r .depth)))
+    (le→leb _ _ (r .shallow))
 
 bracket-more : (below more : List Term) (t : Term) → BracketFacts below t → BracketFacts (below ++ more) t
-bracket-more below more t r = record { inside = rw length-append (omega (arith, r .inside)); shallow = r .shallow;
-    depth = r .depth ∙ ap (λ z. suc (deepest z)) (sym (part-kept below more (t .a) (t .b) (r .inside))) }
+bracket-more below more t r = record {
+  inside = rw length-append (omega (arith, r .inside));
+  shallow = r .shallow;
+  depth = r .depth ∙ ap (λ z. suc (deepest z)) (sym (part-kept below more (t .a) (t .b) (r .inside)));
+}
 
 rule-more : (k : ℕ) (names : List ℕ) (below more : List Term) (t : Term) → T (termRuleK k names below t) → T (termRuleK k names (below ++ more) t)
 unfolding termRuleK
@@ -85,6 +88,20 @@ append-above names below (t ∷ ts) us h k =
 
 pub terms-append : (names : List ℕ) (ts us : List Term) → T (termsRule names [] ts) → T (termsRule names ts us) → T (termsRule names [] (ts ++ us))
 terms-append names ts us h k = append-above names [] ts us h k
+
+-- A bracket's contents end at or below its own number: what the walk needs of a store.
+unfoldable pub Valid : List Term → Type 0
+Valid ts = (i : ℕ) → i < length ts → (getD ts i noTerm) .kind ≡ 3 → (getD ts i noTerm) .a + (getD ts i noTerm) .b ≤ i
+
+bracket-of : (k : ℕ) (names : List ℕ) (below : List Term) (t : Term) → k ≡ 3 → T (termRuleK k names below t) → BracketFacts below t
+unfolding termRuleK
+bracket-of k names below t e h = bracket-facts below t (rw e at h)
+
+pub valid-terms : (names : List ℕ) (ts : List Term) → T (termsRule names [] ts) → Valid ts
+unfolding Valid termRule
+valid-terms names ts h i lt e =
+    let f = bracket-of ((getD ts i noTerm) .kind) names (take i ts) (getD ts i noTerm) e (term-at names [] ts i h lt) in
+    omega (arith, f .inside, length-take i ts)
 
 -- ---- values ----
 

@@ -9,6 +9,7 @@ use Prim.Native.Nat.{ℕ, _+_}
 unfoldable pub isLetter : ℕ → Bool
 isLetter c = leb 65 c && leb c 90 || leb 97 c && leb c 122
 
+-- An ASCII digit.
 unfoldable pub isDigit : ℕ → Bool
 isDigit c = leb 48 c && leb c 57
 
@@ -16,6 +17,7 @@ isDigit c = leb 48 c && leb c 57
 unfoldable pub isNameByte : ℕ → Bool
 isNameByte c = isLetter c || isDigit c || eqb c 45 || eqb c 95
 
+-- Every byte of a text passes a test.
 unfoldable pub every : (ℕ → Bool) → List ℕ → Bool
 every f [] = true
 every f (c ∷ l) = f c && every f l

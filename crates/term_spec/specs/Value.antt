@@ -27,10 +27,12 @@ mutual
     cons : Value → Values → Values
     deriving Discrete as Values-discrete
 
+-- Contents as a list, and back.
 unfoldable pub toList : Values → List Value
 toList nil = []
 toList (cons v vs) = v ∷ toList vs
 
+-- A list as contents.
 unfoldable pub fromList : List Value → Values
 fromList [] = nil
 fromList (v ∷ vs) = cons v (fromList vs)
@@ -39,6 +41,7 @@ fromList (v ∷ vs) = cons v (fromList vs)
 unfoldable pub bracketed : List Value → Value
 bracketed l = bracket (fromList l)
 
+-- The contents of a bracket; no other value has any.
 unfoldable pub contents : Value → Option (List Value)
 contents (char c) = none
 contents (ident s) = none
@@ -54,6 +57,7 @@ valueK (suc (suc zero)) text t below = num text
 valueK (suc (suc (suc zero))) text t below = bracketed (part below (contentsRun t))
 valueK (suc (suc (suc (suc n)))) text t below = unknown (t .a) (t .b) (t .c)
 
+-- A term's value; its text is the b bytes at a of the names.
 unfoldable pub valueOf : List ℕ → Term → List Value → Value
 valueOf names t below = valueK (t .kind) (textAt names (t .a) (t .b)) t below
 
@@ -90,15 +94,18 @@ heads? (yes p) (yes q) = yes (λ i. p i ∷ q i)
 heads? (yes p) (no n) = no (λ e. n (tail-eq-of-cons-eq e))
 heads? (no n) q = no (λ e. n (head-eq-of-cons-eq e))
 
+-- Deciding whether two lists are the same.
 unfoldable pub list? : {A : Type 0} → Discrete A → Discrete (List A)
 list? d [] [] = yes refl
 list? d [] (y ∷ ys) = no nil≢cons
 list? d (x ∷ xs) [] = no cons≢nil
 list? d (x ∷ xs) (y ∷ ys) = heads? (d x y) (list? d xs ys)
 
+-- Whether two values are the same.
 unfoldable pub same? : Discrete Value
 same? = Value-discrete ℕ-discrete (list? ℕ-discrete)
 
+-- Whether two lists of values are the same.
 unfoldable pub sames? : Discrete (List Value)
 sames? = list? same?
 
@@ -118,6 +125,7 @@ unknownColumn (suc zero) = 5
 unknownColumn (suc (suc zero)) = 6
 unknownColumn (suc (suc (suc k))) = 7
 
+-- The column of a value in the table.
 unfoldable pub column : Value → ℕ
 column (char c) = 0
 column (ident s) = 1
@@ -133,16 +141,20 @@ takesRow r v = getD (getD takesTable r []) (column v) false
 pub data Single : Type 0 where
   symbol term : Single
 
+-- The row of such a variable in the table.
 unfoldable pub row : Single → ℕ
 row symbol = 0
 row term = 1
 
+-- Whether an s- or t-variable takes a value.
 unfoldable pub takes : Single → Value → Bool
 takes k v = takesRow (row k) v
 
+-- A test, as a decision.
 unfoldable pub decided : (b : Bool) → Dec (T b)
 decided true = yes tt
 decided false = no (λ e. e)
 
+-- Whether a variable takes a value, as a decision.
 unfoldable pub takes? : (k : Single) (v : Value) → Dec (T (takes k v))
 takes? k v = decided (takes k v)

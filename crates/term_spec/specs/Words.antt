@@ -16,6 +16,7 @@ unfoldable pub decode : {A : Type 0} → Layout A → ℕ → List ℕ → List 
 decode L zero w = []
 decode L (suc n) w = L .read (take (L .width) w) ∷ decode L n (drop (L .width) w)
 
+-- The words of records, one after another.
 unfoldable pub encode : {A : Type 0} → Layout A → List A → List ℕ
 encode L [] = []
 encode L (r ∷ rs) = L .words r ++ encode L rs
@@ -24,6 +25,7 @@ encode L (r ∷ rs) = L .words r ++ encode L rs
 unfoldable pub count : {A : Type 0} → Layout A → List ℕ → ℕ
 count L w = length w / L .width
 
+-- "a slice of records .. isn't whole" (1 Uneven) where this is false.
 unfoldable pub whole : {A : Type 0} → Layout A → List ℕ → Bool
 whole L w = eqb (length w % L .width) 0
 

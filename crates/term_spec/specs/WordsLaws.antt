@@ -1,15 +1,13 @@
 -- Reading records after records were written: the laws that see where a record's words lie, once for every kind of record.
 use mathlib.Core.Path.{_≡_, refl, ap, ap₂, sym, _∙_}
 use mathlib.Core.List.{List, [], _∷_, _++_, append-assoc, append-nil}
-use mathlib.Core.Bool.{Bool}
-use lib.Dec.{T, eqb→eq}
-use lib.ListN.{length, getD, take, drop, length-append, length-take, length-drop, take-append-drop}
-use lib.Seq.{take-append-le, drop-append-le, take-at, drop-at, length-take-le, take-take, drop-drop, take-append-seam}
-use Prim.Native.Nat.{ℕ, suc, zero, _+_, _*_, _-_, _/_, _%_, _≤_, _<_, min}
+use lib.ListN.{length, take, drop, length-append, length-drop, take-append-drop}
+use lib.Seq.{take-append-le, drop-append-le, take-at, drop-at, length-take-le}
+use Prim.Native.Nat.{ℕ, suc, zero, _+_, _*_, _-_, _/_, _%_, _≤_}
 use native.Mathlib.Omega.{arith}
-use native.Mathlib.Nat.{suc-mul, le-div-iff-mul-le, div-add-mod', mul-le-mul-right}
+use native.Mathlib.Nat.{suc-mul, le-div-iff-mul-le, mul-le-mul-right}
 use Rattle.term_spec.specs.Words.{Layout, decode, encode, count, whole, records, write}
-use Rattle.term_spec.specs.Term.{Term, termOf, termLayout, Run, runOf, runLayout}
+use Rattle.term_spec.specs.Term.{termOf, termLayout, runOf, runLayout}
 
 -- A record's words are as many as its width, and mean the record.
 pub record Lays {A : Type 0} (L : Layout A) : Type 0 where
@@ -73,8 +71,8 @@ module _ {A : Type 0} (L : Layout A) (lays : Lays L) where
   decode-encode (r ∷ rs) x =
       let e = append-assoc (L .words r) (encode L rs) x in
       ap₂ (λ y z. L .read y ∷ decode L (length rs) z)
-        (ap (take (L .width)) e ∙ take-at (L .words r) (encode L rs ++ x) (L .width) (lays .sized r))
-        (ap (drop (L .width)) e ∙ drop-at (L .words r) (encode L rs ++ x) (L .width) (lays .sized r))
+      (ap (take (L .width)) e ∙ take-at (L .words r) (encode L rs ++ x) (L .width) (lays .sized r))
+      (ap (drop (L .width)) e ∙ drop-at (L .words r) (encode L rs ++ x) (L .width) (lays .sized r))
       ∙ ap₂ _∷_ (lays .reads r) (decode-encode rs x)
 
   pub encode-append : (rs qs : List A) → encode L (rs ++ qs) ≡ encode L rs ++ encode L qs

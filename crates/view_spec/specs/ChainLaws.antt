@@ -32,7 +32,7 @@ onto-parts {X} xs r (q ∷ qs) = go (ℕ-discrete (r .start + r .len) (q .start)
     go : (d : Dec (r .start + r .len ≡ q .start)) → parts xs (fuseHead d r q qs) ≡ part xs r ++ (part xs q ++ parts xs qs)
     go (yes h) =
         ap (_++ parts xs qs) (take-add (r .len) (q .len) (drop (r .start) xs)
-          ∙ ap (λ z. part xs r ++ take (q .len) z) (drop-drop (r .len) (r .start) xs ∙ ap (λ z. drop z xs) h))
+        ∙ ap (λ z. part xs r ++ take (q .len) z) (drop-drop (r .len) (r .start) xs ∙ ap (λ z. drop z xs) h))
         ∙ append-assoc (part xs r) (part xs q) (parts xs qs)
     go (no h) = refl
 
@@ -101,7 +101,8 @@ chain-made xs (r ∷ qs) ns g a = go (chain qs ns) (chainHead qs (chain qs ns)) 
           grown = trans-grown ns ms (makeCons ms (r .start) (r .len) i) (ih .grown) (m .grown);
           below = rw e (m .below);
           leaf = rw (e, node-new ms n) (omega arith);
-          shows = ap (meaning xs (makeCons ms (r .start) (r .len) i)) e ∙ m .shows ∙ ap (part xs r ++_) (ih .shows) }
+          shows = ap (meaning xs (makeCons ms (r .start) (r .len) i)) e ∙ m .shows ∙ ap (part xs r ++_) (ih .shows);
+        }
 
 pub chain-length : (qs : List Run) (ns : List Node) → length (chain qs ns) ≡ length ns + length qs
 unfolding chain

@@ -40,20 +40,20 @@ concat-step n below (suc k) h e = rw e refl
 
 pub drop-cons : (used : ℕ) (ns : List Node) (i k : ℕ) → i < length ns → ConsAt used ns i → 1 ≤ k
     → dropPlan ns i k ≡ ifDec (decLt k ((nodeAt ns i) .b)) (cut ((nodeAt ns i) .a + k) ((nodeAt ns i) .b - k) ((nodeAt ns i) .c))
-      (dropPlan ns ((nodeAt ns i) .c) (k - (nodeAt ns i) .b))
+    (dropPlan ns ((nodeAt ns i) .c) (k - (nodeAt ns i) .b))
 unfolding dropPlan
 drop-cons used ns i k lt m h = drop-at ns i k lt ∙ cons-step (nodeAt ns i) (take i (table dropOf ns [])) k h (m .kind1)
     ∙ ap (λ f. ifDec (decLt k ((nodeAt ns i) .b)) (cut ((nodeAt ns i) .a + k) ((nodeAt ns i) .b - k) ((nodeAt ns i) .c)) (f (k - (nodeAt ns i) .b)))
-      (getD-take i (table dropOf ns []) ((nodeAt ns i) .c) stay (m .tail-low))
+    (getD-take i (table dropOf ns []) ((nodeAt ns i) .c) stay (m .tail-low))
 
 pub drop-concat : (ns : List Node) (i k : ℕ) → i < length ns → ConcatAt ns i → 1 ≤ k
     → dropPlan ns i k ≡ ifDec (decLt k ((nodeAt ns i) .b)) (under (dropPlan ns ((nodeAt ns i) .a) k) ((nodeAt ns i) .b - k) ((nodeAt ns i) .c))
-      (dropPlan ns ((nodeAt ns i) .c) (k - (nodeAt ns i) .b))
+    (dropPlan ns ((nodeAt ns i) .c) (k - (nodeAt ns i) .b))
 unfolding dropPlan
 drop-concat ns i k lt m h = drop-at ns i k lt ∙ concat-step (nodeAt ns i) (take i (table dropOf ns [])) k h (m .kind2)
     ∙ ap₂ (λ f f′. ifDec (decLt k ((nodeAt ns i) .b)) (under (f k) ((nodeAt ns i) .b - k) ((nodeAt ns i) .c)) (f′ (k - (nodeAt ns i) .b)))
-      (getD-take i (table dropOf ns []) ((nodeAt ns i) .a) stay (m .left-low))
-      (getD-take i (table dropOf ns []) ((nodeAt ns i) .c) stay (m .right-low))
+    (getD-take i (table dropOf ns []) ((nodeAt ns i) .a) stay (m .left-low))
+    (getD-take i (table dropOf ns []) ((nodeAt ns i) .c) stay (m .right-low))
 
 -- ---- the terms a plan leaves, and what it needs of the store ----
 
@@ -94,17 +94,21 @@ module _ {X : Type 0} (xs : List X) (ns : List Node) (g : GoodNodes (length xs) 
   unfolding ifDec Lasts leaves
   cons-dropped n i k h lt fit pos rec m (yes d) =
       let q : (nodeAt ns i) .b ≤ length (drop ((nodeAt ns i) .a) xs) = rw length-drop (omega arith) in
-      record { lasts = record { some-terms = omega arith; inside-terms = omega arith; tail-low = omega arith; tail-kind = m .tail-kind };
+      record {
+        lasts = record { some-terms = omega arith; inside-terms = omega arith; tail-low = omega arith; tail-kind = m .tail-kind };
         shows = sym (ap (drop k) (meaning-cons xs ns i lt m)
-          ∙ drop-left k ((nodeAt ns i) .b) (drop ((nodeAt ns i) .a) xs) (meaning xs ns ((nodeAt ns i) .c)) (omega arith) q
-          ∙ ap (λ z. take ((nodeAt ns i) .b - k) z ++ meaning xs ns ((nodeAt ns i) .c)) (drop-drop k ((nodeAt ns i) .a) xs)) }
+            ∙ drop-left k ((nodeAt ns i) .b) (drop ((nodeAt ns i) .a) xs) (meaning xs ns ((nodeAt ns i) .c)) (omega arith) q
+            ∙ ap (λ z. take ((nodeAt ns i) .b - k) z ++ meaning xs ns ((nodeAt ns i) .c)) (drop-drop k ((nodeAt ns i) .a) xs));
+      }
   cons-dropped n i k h lt fit pos rec m (no d) =
       let q : (nodeAt ns i) .b ≤ length (drop ((nodeAt ns i) .a) xs) = rw length-drop (omega arith) in
       let l = cons-length xs ns i lt m in
       let ih = rec ((nodeAt ns i) .c) (k - (nodeAt ns i) .b) (omega arith) (omega arith) (omega arith) in
-      record { lasts = ih .lasts;
+      record {
+        lasts = ih .lasts;
         shows = ih .shows ∙ sym (ap (drop k) (meaning-cons xs ns i lt m)
-          ∙ drop-right k ((nodeAt ns i) .b) (drop ((nodeAt ns i) .a) xs) (meaning xs ns ((nodeAt ns i) .c)) (omega arith) q) }
+            ∙ drop-right k ((nodeAt ns i) .b) (drop ((nodeAt ns i) .a) xs) (meaning xs ns ((nodeAt ns i) .c)) (omega arith) q);
+      }
 
   concat-dropped : (n i k : ℕ) → i < suc n → i < length ns → k ≤ length (meaning xs ns i) → 1 ≤ k → Below n → (m : ConcatAt ns i)
       → (d : Dec (k < (nodeAt ns i) .b))
@@ -113,18 +117,30 @@ module _ {X : Type 0} (xs : List X) (ns : List Node) (g : GoodNodes (length xs) 
   concat-dropped n i k h lt fit pos rec m (yes d) =
       let q = left-fits xs ns g i lt m in
       let ih = rec ((nodeAt ns i) .a) k (omega arith) (omega arith) (omega arith) in
-      record { lasts = (record { some-terms = omega arith; within = rw (ih .shows, length-drop) (omega arith);
-          limited = omega (arith, reach-limit xs ns g ((nodeAt ns i) .a) (omega arith)); right-low = omega arith; right-some = m .right-some }, ih .lasts);
+      record {
+        lasts = (
+          record {
+            some-terms = omega arith;
+            within = rw (ih .shows, length-drop) (omega arith);
+            limited = omega (arith, reach-limit xs ns g ((nodeAt ns i) .a) (omega arith));
+            right-low = omega arith;
+            right-some = m .right-some;
+          },
+          ih .lasts,
+        );
         shows = ap (λ z. take ((nodeAt ns i) .b - k) z ++ meaning xs ns ((nodeAt ns i) .c)) (ih .shows)
-          ∙ sym (ap (drop k) (meaning-concat xs ns i lt m)
-            ∙ drop-left k ((nodeAt ns i) .b) (meaning xs ns ((nodeAt ns i) .a)) (meaning xs ns ((nodeAt ns i) .c)) (omega arith) q) }
+            ∙ sym (ap (drop k) (meaning-concat xs ns i lt m)
+            ∙ drop-left k ((nodeAt ns i) .b) (meaning xs ns ((nodeAt ns i) .a)) (meaning xs ns ((nodeAt ns i) .c)) (omega arith) q);
+      }
   concat-dropped n i k h lt fit pos rec m (no d) =
       let q = left-fits xs ns g i lt m in
       let l = concat-length xs ns i lt m q in
       let ih = rec ((nodeAt ns i) .c) (k - (nodeAt ns i) .b) (omega arith) (omega arith) (omega arith) in
-      record { lasts = ih .lasts;
+      record {
+        lasts = ih .lasts;
         shows = ih .shows ∙ sym (ap (drop k) (meaning-concat xs ns i lt m)
-          ∙ drop-right k ((nodeAt ns i) .b) (meaning xs ns ((nodeAt ns i) .a)) (meaning xs ns ((nodeAt ns i) .c)) (omega arith) q) }
+            ∙ drop-right k ((nodeAt ns i) .b) (meaning xs ns ((nodeAt ns i) .a)) (meaning xs ns ((nodeAt ns i) .c)) (omega arith) q);
+      }
 
   drop-upto : (n i k : ℕ) → i < n → i < length ns → k ≤ length (meaning xs ns i) → Dropped i k (dropPlan ns i k)
   unfolding Lasts leaves
@@ -175,9 +191,13 @@ shrink-made {X} xs (under p m r) ns g f = go (f .0) (shrink-made xs p ns g (f .1
         let rk : nodeAt (shrink p ns) r ≡ nodeAt ns r = ap (λ z. nodeAt z r) e ∙ node-kept ns new r (u .right-low) in
         let rm : meaning xs (shrink p ns) r ≡ meaning xs ns r = ap (λ z. meaning xs z r) e ∙ meaning-kept xs ns new r (u .right-low) in
         let h : m ≤ (nodeAt (shrink p ns) (dropNode p ns)) .reach =
-            omega (arith, u .within, u .limited, reach-is xs (shrink p ns) (s .good) (dropNode p ns) (s .below)) in
+        omega (arith, u .within, u .limited, reach-is xs (shrink p ns) (s .good) (dropNode p ns) (s .below)) in
         let k = node-some (length xs) (shrink p ns) (dropNode p ns) (s .good) (s .below) (omega (arith, u .some-terms)) in
         let c = made-concat xs (shrink p ns) (dropNode p ns) m r (s .good) (s .below) rl k (rw rk (u .right-some)) (u .some-terms) h in
         let q = shrink-length p ns in
-        record { good = c .good; grown = trans-grown ns (shrink p ns) (makeConcat (shrink p ns) (dropNode p ns) m r) (s .grown) (c .grown); below = rw (← q) (c .below);
-          shows = ap (meaning xs (makeConcat (shrink p ns) (dropNode p ns) m r)) (sym q) ∙ c .shows ∙ ap₂ (λ x y. take m x ++ y) (s .shows) rm }
+        record {
+          good = c .good;
+          grown = trans-grown ns (shrink p ns) (makeConcat (shrink p ns) (dropNode p ns) m r) (s .grown) (c .grown);
+          below = rw (← q) (c .below);
+          shows = ap (meaning xs (makeConcat (shrink p ns) (dropNode p ns) m r)) (sym q) ∙ c .shows ∙ ap₂ (λ x y. take m x ++ y) (s .shows) rm;
+        }

@@ -49,9 +49,12 @@ builds-runs xs rs ns g a t =
     let c = chain-made xs (fuse rs) ns g (fuse-fine (length xs) rs a) in
     let e = c .shows ∙ fuse-parts xs rs in
     let n = parts-length xs rs a in
-    record { good = c .good; grown = c .grown;
+    record {
+      good = c .good;
+      grown = c .grown;
       field = field-of xs (chain (fuse rs) ns) (chainHead (fuse rs) (chain (fuse rs) ns)) (total rs) (parts xs rs) (c .good) (c .below) e (omega arith) t;
-      shows = ap (take (total rs)) e ∙ take-all (total rs) (parts xs rs) (omega arith) }
+      shows = ap (take (total rs)) e ∙ take-all (total rs) (parts xs rs) (omega arith);
+    }
 
 by-lengths : {X : Type 0} (xs : List X) (f g : Field) (d : Dec (f .len ≡ 0)) (d′ : Dec (g .len ≡ 0)) (ns : List Node) → T (nodesRule (length xs) ns)
     → T (fieldRule ns f) → T (fieldRule ns g) → f .len + g .len ≤ limit → Builds xs ns (joinBy d d′ f g ns) (holds xs ns f ++ holds xs ns g)
@@ -59,13 +62,21 @@ unfolding joinBy
 by-lengths xs f g (yes e) d′ ns gn hf hg le =
     let n : f .len + g .len ≡ g .len = omega arith in
     let (x, y) = field-facts ns g hg in
-    record { good = gn; grown = ([], sym (append-nil ns)); field = facts-field ns (record { node = g .node; len = f .len + g .len }) x (omega arith);
-      shows = ap₂ (λ a b. take a (meaning xs ns (f .node)) ++ take b (meaning xs ns (g .node))) (sym e) n }
+    record {
+      good = gn;
+      grown = ([], sym (append-nil ns));
+      field = facts-field ns (record { node = g .node; len = f .len + g .len }) x (omega arith);
+      shows = ap₂ (λ a b. take a (meaning xs ns (f .node)) ++ take b (meaning xs ns (g .node))) (sym e) n;
+    }
 by-lengths xs f g (no e) (yes e′) ns gn hf hg le =
     let n : f .len + g .len ≡ f .len = omega arith in
     let (x, y) = field-facts ns f hf in
-    record { good = gn; grown = ([], sym (append-nil ns)); field = facts-field ns (record { node = f .node; len = f .len + g .len }) x (omega arith);
-      shows = ap (λ a. take a (meaning xs ns (f .node))) n ∙ sym (append-nil (holds xs ns f)) ∙ ap (λ b. holds xs ns f ++ take b (meaning xs ns (g .node))) (sym e′) }
+    record {
+      good = gn;
+      grown = ([], sym (append-nil ns));
+      field = facts-field ns (record { node = f .node; len = f .len + g .len }) x (omega arith);
+      shows = ap (λ a. take a (meaning xs ns (f .node))) n ∙ sym (append-nil (holds xs ns f)) ∙ ap (λ b. holds xs ns f ++ take b (meaning xs ns (g .node))) (sym e′);
+    }
 by-lengths xs f g (no e) (no e′) ns gn hf hg le =
     let pg = field-piece xs ns g gn hg (omega arith) in
     let u = unclamped xs ns gn (g .node) (g .len) (pg .below) (pg .some-node) (pg .within) in
@@ -77,11 +88,14 @@ by-lengths xs f g (no e) (no e′) ns gn hf hg le =
     let ml = reach-is xs ns gn (joinRight g ns) rl in
     let z = m .shows ∙ ap (_++ meaning xs ns (joinRight g ns)) (q .shows) in
     let n : f .len + g .len - f .len ≡ g .len = omega arith in
-    record { good = m .good; grown = m .grown;
+    record {
+      good = m .good;
+      grown = m .grown;
       field = field-of xs _ _ (f .len + g .len) (holds xs ns f ++ meaning xs ns (joinRight g ns)) (m .good) (m .below) z (rw length-append (omega (arith, u .within))) le;
       shows = ap (take (f .len + g .len)) z
-        ∙ take-right (f .len + g .len) (f .len) (meaning xs ns (f .node)) (meaning xs ns (joinRight g ns)) (omega arith) fl
-        ∙ ap (holds xs ns f ++_) (ap (λ y. take y (meaning xs ns (joinRight g ns))) n ∙ u .shows) }
+          ∙ take-right (f .len + g .len) (f .len) (meaning xs ns (f .node)) (meaning xs ns (joinRight g ns)) (omega arith) fl
+          ∙ ap (holds xs ns f ++_) (ap (λ y. take y (meaning xs ns (joinRight g ns))) n ∙ u .shows);
+    }
 
 pub builds-join : {X : Type 0} (xs : List X) (f g : Field) (ns : List Node) → T (nodesRule (length xs) ns) → T (fieldRule ns f) → T (fieldRule ns g)
     → f .len + g .len ≤ limit → Builds xs ns (join f g ns) (holds xs ns f ++ holds xs ns g)
@@ -97,10 +111,13 @@ builds-rest xs f k ns g h le =
     let d = dropped xs ns g (f .node) k x (omega arith) in
     let s = shrink-made xs (dropPlan ns (f .node) k) ns g (d .lasts) in
     let z = s .shows ∙ d .shows in
-    record { good = s .good; grown = s .grown;
+    record {
+      good = s .good;
+      grown = s .grown;
       field = field-of xs (shrink (dropPlan ns (f .node) k) ns) (dropNode (dropPlan ns (f .node) k) ns) (f .len - k) (drop k (meaning xs ns (f .node)))
-        (s .good) (s .below) z (rw length-drop (omega arith)) (omega arith);
-      shows = ap (take (f .len - k)) z ∙ sym (drop-take k (f .len) (meaning xs ns (f .node))) }
+          (s .good) (s .below) z (rw length-drop (omega arith)) (omega arith);
+      shows = ap (take (f .len - k)) z ∙ sym (drop-take k (f .len) (meaning xs ns (f .node)));
+    }
 
 -- "`range` is `rest`, then `take`."
 pub builds-range : {X : Type 0} (xs : List X) (f : Field) (k n : ℕ) (ns : List Node) → T (nodesRule (length xs) ns) → T (fieldRule ns f) → k + n ≤ f .len

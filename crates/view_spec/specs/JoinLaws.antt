@@ -68,26 +68,30 @@ module _ {X : Type 0} (xs : List X) (ns : List Node) (g : GoodNodes (length xs) 
       → Unclamped xs ns (right ns i) (len - leftLen ns i) j → Below n
       → (d : Dec (leftLen ns j < len - leftLen ns i))
       → Planned i len (ifDec d (double (left ns i) (leftLen ns i) (left ns j) (leftLen ns j) (plan ns h (right ns j) (len - leftLen ns i - leftLen ns j)))
-        (base i len))
+      (base i len))
   unfolding ifDec Fits worth
   double-planned n i j len m k lt p q u rec (no d) = base-planned i len p
   double-planned n i j len m k lt p q u rec (yes d) =
       let il = p .below in
       let jl : j < length ns = omega arith in
       let r : Piece ns (right ns j) (len - leftLen ns i - leftLen ns j) =
-          record { below = omega arith; some-node = k .right-some; some-len = omega arith; within = omega arith } in
+      record { below = omega arith; some-node = k .right-some; some-len = omega arith; within = omega arith } in
       let ih = rec (right ns j) (len - leftLen ns i - leftLen ns j) (omega arith) r in
       record {
-        fits = (record { below = omega arith; some-node = m .left-some; some-len = m .some-left; within = m .left-reach },
+        fits = (
+          record { below = omega arith; some-node = m .left-some; some-len = m .some-left; within = m .left-reach },
           record { below = omega arith; some-node = k .left-some; some-len = k .some-left; within = k .left-reach },
-          omega (arith, reach-limit xs ns g i il), ih .fits);
+          omega (arith, reach-limit xs ns g i il),
+          ih .fits,
+        );
         shows = ap (take (leftLen ns i) (meaning xs ns (left ns i)) ++_)
-          (ap (take (leftLen ns j) (meaning xs ns (left ns j)) ++_) (ih .shows)
-          ∙ sym (take-right (len - leftLen ns i) (leftLen ns j) (meaning xs ns (left ns j)) (meaning xs ns (right ns j)) (omega arith) (left-fits xs ns g j jl k))
-          ∙ ap (take (len - leftLen ns i)) (sym (meaning-concat xs ns j jl k))
-          ∙ u .shows)
-          ∙ sym (take-right len (leftLen ns i) (meaning xs ns (left ns i)) (meaning xs ns (right ns i)) (omega arith) (left-fits xs ns g i il m))
-          ∙ ap (take len) (sym (meaning-concat xs ns i il m)) }
+            (ap (take (leftLen ns j) (meaning xs ns (left ns j)) ++_) (ih .shows)
+            ∙ sym (take-right (len - leftLen ns i) (leftLen ns j) (meaning xs ns (left ns j)) (meaning xs ns (right ns j)) (omega arith) (left-fits xs ns g j jl k))
+            ∙ ap (take (len - leftLen ns i)) (sym (meaning-concat xs ns j jl k))
+            ∙ u .shows)
+            ∙ sym (take-right len (leftLen ns i) (meaning xs ns (left ns i)) (meaning xs ns (right ns i)) (omega arith) (left-fits xs ns g i il m))
+            ∙ ap (take len) (sym (meaning-concat xs ns i il m));
+      }
 
   second-planned : (n i j len : ℕ) (m : ConcatAt ns i) → i < suc n → Piece ns i len → leftLen ns i < len
       → Unclamped xs ns (right ns i) (len - leftLen ns i) j → Below n
@@ -101,7 +105,7 @@ module _ {X : Type 0} (xs : List X) (ns : List Node) (g : GoodNodes (length xs) 
       → Unclamped xs ns (right ns i) (len - leftLen ns i) j → Below n
       → {P Q : Type 0} (d : Dec P) (d′ : Dec Q)
       → Planned i len (ifDec d (ifDec d′ (single (left ns i) (leftLen ns i) (plan ns h (right ns i) (len - leftLen ns i)))
-        (secondTurn ((nodeAt ns j) .kind) ns h i j len)) (base i len))
+      (secondTurn ((nodeAt ns j) .kind) ns h i j len)) (base i len))
   unfolding ifDec Fits worth
   turn-planned n i j len m lt p q u rec (no d) d′ = base-planned i len p
   turn-planned n i j len m lt p q u rec (yes d) (no d′) = second-planned n i j len m lt p q u rec (node-at (length xs) ns j g (omega (arith, p .below)))
@@ -112,8 +116,9 @@ module _ {X : Type 0} (xs : List X) (ns : List Node) (g : GoodNodes (length xs) 
       record {
         fits = (record { below = omega arith; some-node = m .left-some; some-len = m .some-left; within = m .left-reach }, ih .fits);
         shows = ap (take (leftLen ns i) (meaning xs ns (left ns i)) ++_) (ih .shows)
-          ∙ sym (take-right len (leftLen ns i) (meaning xs ns (left ns i)) (meaning xs ns (right ns i)) (omega arith) (left-fits xs ns g i il m))
-          ∙ ap (take len) (sym (meaning-concat xs ns i il m)) }
+            ∙ sym (take-right len (leftLen ns i) (meaning xs ns (left ns i)) (meaning xs ns (right ns i)) (omega arith) (left-fits xs ns g i il m))
+            ∙ ap (take len) (sym (meaning-concat xs ns i il m));
+      }
 
   left-planned : (n i len : ℕ) (m : ConcatAt ns i) → i < suc n → Piece ns i len → Below n
       → (d : Dec (len ≤ leftLen ns i)) (x : Plan) → (leftLen ns i < len → Planned i len x)
@@ -122,8 +127,11 @@ module _ {X : Type 0} (xs : List X) (ns : List Node) (g : GoodNodes (length xs) 
   left-planned n i len m lt p rec (no d) x f = f (omega arith)
   left-planned n i len m lt p rec (yes d) x f =
       let ih = rec (left ns i) len (omega arith) (record { below = omega (arith, p .below); some-node = m .left-some; some-len = p .some-len; within = omega arith }) in
-      record { fits = ih .fits; shows = ih .shows ∙ sym (ap (take len) (meaning-concat xs ns i (p .below) m)
-        ∙ take-left len (leftLen ns i) (meaning xs ns (left ns i)) (meaning xs ns (right ns i)) d (left-fits xs ns g i (p .below) m)) }
+      record {
+        fits = ih .fits;
+        shows = ih .shows ∙ sym (ap (take len) (meaning-concat xs ns i (p .below) m)
+            ∙ take-left len (leftLen ns i) (meaning xs ns (left ns i)) (meaning xs ns (right ns i)) d (left-fits xs ns g i (p .below) m));
+      }
 
   plan-upto : (n i len : ℕ) → i < n → Piece ns i len → Planned i len (plan ns h i len)
   plan-upto zero i len lt p = absurd (omega arith)
@@ -136,8 +144,8 @@ module _ {X : Type 0} (xs : List X) (ns : List Node) (g : GoodNodes (length xs) 
           let u = unclamped xs ns g (right ns i) (len - leftLen ns i) (omega (arith, p .below)) (m .right-some) (omega arith) in
           rw (plan-concat (length xs) ns h i len g (p .below) m (omega arith))
           (left-planned n i len m lt p rec (decLe len (leftLen ns i)) _ (λ q.
-            turn-planned n i (innerRight ns i len) len m lt p q u rec (decLt (suc h) ((nodeAt ns i) .height))
-              (decLe ((nodeAt ns (right ns i)) .height) ((nodeAt ns (left ns i)) .height))))
+          turn-planned n i (innerRight ns i len) len m lt p q u rec (decLt (suc h) ((nodeAt ns i) .height))
+          (decLe ((nodeAt ns (right ns i)) .height) ((nodeAt ns (left ns i)) .height))))
 
   pub planned : (i len : ℕ) → Piece ns i len → Planned i len (plan ns h i len)
   planned i len p = plan-upto (suc i) i len (omega arith) p
@@ -168,7 +176,8 @@ outer-made xs ns ms a b i l m p =
       grown = trans-grown ns ms (makeConcat ms a b i) (m .grown) (c .grown);
       below = rw e (c .below);
       some-node = rw e (c .some-node);
-      shows = ap (meaning xs (makeConcat ms a b i)) e ∙ c .shows ∙ ap (take b (meaning xs ms a) ++_) (m .shows) }
+      shows = ap (meaning xs (makeConcat ms a b i)) e ∙ c .shows ∙ ap (take b (meaning xs ms a) ++_) (m .shows);
+    }
 
 made-as : {X : Type 0} {xs : List X} {ns ms : List Node} {i : ℕ} {l k : List X} → Made xs ns ms i l → l ≡ k → Made xs ns ms i k
 made-as m e = record { good = m .good; grown = m .grown; below = m .below; some-node = m .some-node; shows = m .shows ∙ e }
@@ -184,8 +193,8 @@ grow-made xs r (base l len) ns g f lt k =
 grow-made xs r (single a b p) ns g f lt k =
     let m = grow-made xs r p ns g (f .1) lt k in
     made-as (outer-made xs ns (grow r p ns) a b (last (grow r p ns)) _ m (piece-grown (m .grown) (f .0)))
-      (ap (λ z. take b z ++ (worth xs ns p ++ meaning xs ns r)) (meaning-grown xs (m .grown) (f .0))
-        ∙ sym (append-assoc (take b (meaning xs ns a)) (worth xs ns p) (meaning xs ns r)))
+    (ap (λ z. take b z ++ (worth xs ns p ++ meaning xs ns r)) (meaning-grown xs (m .grown) (f .0))
+    ∙ sym (append-assoc (take b (meaning xs ns a)) (worth xs ns p) (meaning xs ns r)))
 grow-made xs r (double a b c d p) ns g f lt k =
     let pa = f .0 in
     let pc = f .1 in
@@ -196,16 +205,24 @@ grow-made xs r (double a b c d p) ns g f lt k =
     let la : b ≤ length (meaning xs ns a) = omega (arith, reach-is xs ns g a (pa .below), pa .within) in
     let ra = reach-is xs (makeConcat ns a b c) (head .good) (length ns) (head .below) in
     let ln : length (meaning xs (makeConcat ns a b c) (length ns)) ≡ b + length (meaning xs ns c) =
-        ap length (head .shows) ∙ head-length b (meaning xs ns a) (meaning xs ns c) la in
+    ap length (head .shows) ∙ head-length b (meaning xs ns a) (meaning xs ns c) la in
     let ph : Piece (makeConcat ns a b c) (length ns) (b + d) =
-        record { below = head .below; some-node = head .some-node; some-len = omega (arith, pa .some-len);
-          within = omega (arith, f .2, pc .within, reach-is xs ns g c (pc .below)) } in
-    let o = outer-made xs (makeConcat ns a b c) (grow r p (makeConcat ns a b c)) (length ns) (b + d) (last (grow r p (makeConcat ns a b c))) _ m
-        (piece-grown (m .grown) ph) in
     record {
-      good = o .good; grown = trans-grown ns (makeConcat ns a b c) _ (head .grown) (o .grown); below = o .below; some-node = o .some-node;
+      below = head .below;
+      some-node = head .some-node;
+      some-len = omega (arith, pa .some-len);
+      within = omega (arith, f .2, pc .within, reach-is xs ns g c (pc .below));
+    } in
+    let o = outer-made xs (makeConcat ns a b c) (grow r p (makeConcat ns a b c)) (length ns) (b + d) (last (grow r p (makeConcat ns a b c))) _ m
+    (piece-grown (m .grown) ph) in
+    record {
+      good = o .good;
+      grown = trans-grown ns (makeConcat ns a b c) _ (head .grown) (o .grown);
+      below = o .below;
+      some-node = o .some-node;
       shows = o .shows ∙ ap₂ _++_ (ap (take (b + d)) (meaning-grown xs (m .grown) ph ∙ head .shows) ∙ head-take b d (meaning xs ns a) (meaning xs ns c) la)
           (ap₂ _++_ (worth-kept xs ns new p (f .3)) (meaning-kept xs ns new r lt))
-        ∙ append-assoc (take b (meaning xs ns a)) (take d (meaning xs ns c)) (worth xs ns p ++ meaning xs ns r)
-        ∙ ap (take b (meaning xs ns a) ++_) (sym (append-assoc (take d (meaning xs ns c)) (worth xs ns p) (meaning xs ns r)))
-        ∙ sym (append-assoc (take b (meaning xs ns a)) (take d (meaning xs ns c) ++ worth xs ns p) (meaning xs ns r)) }
+          ∙ append-assoc (take b (meaning xs ns a)) (take d (meaning xs ns c)) (worth xs ns p ++ meaning xs ns r)
+          ∙ ap (take b (meaning xs ns a) ++_) (sym (append-assoc (take d (meaning xs ns c)) (worth xs ns p) (meaning xs ns r)))
+          ∙ sym (append-assoc (take b (meaning xs ns a)) (take d (meaning xs ns c) ++ worth xs ns p) (meaning xs ns r));
+    }

@@ -13,3 +13,4 @@ pub mod RustJoinLaws
 pub mod SettleLaws
 pub mod RustDrop
 pub mod RustDropLaws
+pub mod ViewExamples

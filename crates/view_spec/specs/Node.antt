@@ -5,7 +5,7 @@ use lib.Dec.{leb, ltb, eqb}
 use lib.ListN.{length, getD, take}
 use Prim.Native.Nat.{ℕ, suc, zero, _+_, min, max}
 use Rattle.term_spec.specs.Words.{Layout}
-use Rattle.term_spec.specs.Term.{Run, part, limit}
+use Rattle.term_spec.specs.Term.{part, limit}
 use Rattle.term_spec.specs.Table.{table}
 
 -- "Node, six words: kind, a, b, c, height, reach."
@@ -17,9 +17,11 @@ pub record Node : Type 0 where
   pub height : ℕ
   pub reach : ℕ
 
+-- The node that six words mean.
 unfoldable pub nodeOf : List ℕ → Node
 nodeOf w = record { kind = getD w 0 0; a = getD w 1 0; b = getD w 2 0; c = getD w 3 0; height = getD w 4 0; reach = getD w 5 0 }
 
+-- The node record's width stands here alone.
 abbrev pub nodeLayout : Layout Node
 nodeLayout = record { width = 6; read = nodeOf; words = λ n. n .kind ∷ n .a ∷ n .b ∷ n .c ∷ n .height ∷ n .reach ∷ [] }
 
@@ -28,12 +30,15 @@ pub record Field : Type 0 where
   pub node : ℕ
   pub len : ℕ
 
+-- "The empty field is node 0 with length 0."
 abbrev pub emptyField : Field
 emptyField = record { node = 0; len = 0 }
 
+-- "0 Nil: all words 0"
 abbrev pub nilNode : Node
 nilNode = record { kind = 0; a = 0; b = 0; c = 0; height = 0; reach = 0 }
 
+-- Node i; Nil where there is none.
 abbrev pub nodeAt : List Node → ℕ → Node
 nodeAt ns i = getD ns i nilNode
 
@@ -49,6 +54,7 @@ heightOf ns a c = suc (max ((nodeAt ns a) .height) ((nodeAt ns c) .height))
 abbrev pub consNode : List Node → ℕ → ℕ → ℕ → Node
 consNode ns a b c = record { kind = 1; a = a; b = b; c = c; height = 1; reach = reachOf ns b c }
 
+-- A Concat of the first b terms of a, before c.
 abbrev pub concatNode : List Node → ℕ → ℕ → ℕ → Node
 concatNode ns a b c = record { kind = 2; a = a; b = b; c = c; height = heightOf ns a c; reach = reachOf ns b c }
 
@@ -72,15 +78,18 @@ concatRule below n =
     && leb 1 (n .b) && leb (n .b) ((nodeAt below (n .a)) .reach)
     && eqb (n .height) (heightOf below (n .a) (n .c)) && eqb (n .reach) (reachOf below (n .b) (n .c))
 
+-- The rule of a node by its kind.
 unfoldable pub nodeRuleK : ℕ → ℕ → List Node → Node → Bool
 nodeRuleK zero used below n = nilRule below n
 nodeRuleK (suc zero) used below n = consRule used below n
 nodeRuleK (suc (suc zero)) used below n = concatRule below n
 nodeRuleK (suc (suc (suc k))) used below n = false
 
+-- The rule of a node among the nodes below it.
 unfoldable pub nodeRule : ℕ → List Node → Node → Bool
 nodeRule used below n = nodeRuleK (n .kind) used below n
 
+-- The rule of each node among those below it.
 unfoldable pub eachNode : ℕ → List Node → List Node → Bool
 eachNode used below [] = true
 eachNode used below (n ∷ ns) = nodeRule used below n && eachNode used (below ++ (n ∷ [])) ns
@@ -101,12 +110,15 @@ meaningK zero n xs below = []
 meaningK (suc zero) n xs below = part xs (record { start = n .a; len = n .b }) ++ getD below (n .c) []
 meaningK (suc (suc k)) n xs below = take (n .b) (getD below (n .a) []) ++ getD below (n .c) []
 
+-- The terms that a node gives, from those that the lower ones give.
 unfoldable pub meaningOf : {X : Type 0} → List X → Node → List (List X) → List X
 meaningOf xs n below = meaningK (n .kind) n xs below
 
+-- The terms that each node of a store gives.
 abbrev pub meanings : {X : Type 0} → List X → List Node → List (List X)
 meanings xs ns = table (meaningOf xs) ns []
 
+-- The terms that node i gives.
 abbrev pub meaning : {X : Type 0} → List X → List Node → ℕ → List X
 meaning xs ns i = getD (meanings xs ns) i []
 

@@ -65,55 +65,90 @@ GoodNodes used ns = T (nodesRule used ns)
 
 six-tests : (a b c d e f : Bool) → T (a && b && c && d && e && f) ↔ (T a × T b × T c × T d × T e × T f)
 six-tests a b c d e f = (
-    (λ h.
+  (λ h.
       let (h4, x5) = both-of (a && b && c && d && e) f h in
       let (h3, x4) = both-of (a && b && c && d) e h4 in
       let (h2, x3) = both-of (a && b && c) d h3 in
       let (h1, x2) = both-of (a && b) c h2 in
       let (x0, x1) = both-of a b h1 in
       (x0, x1, x2, x3, x4, x5)),
-    (λ (x0, x1, x2, x3, x4, x5).
-      and-of (a && b && c && d && e) f (and-of (a && b && c && d) e (and-of (a && b && c) d (and-of (a && b) c (and-of a b x0 x1) x2) x3) x4) x5))
+  (λ (x0, x1, x2, x3, x4, x5).
+      and-of (a && b && c && d && e) f (and-of (a && b && c && d) e (and-of (a && b && c) d (and-of (a && b) c (and-of a b x0 x1) x2) x3) x4) x5),
+)
 
 eight-tests : (a b c d e f g k : Bool) → T (a && b && c && d && e && f && g && k) ↔ (T a × T b × T c × T d × T e × T f × T g × T k)
 eight-tests a b c d e f g k = (
-    (λ h.
+  (λ h.
       let (h6, x7) = both-of (a && b && c && d && e && f && g) k h in
       let (h5, x6) = both-of (a && b && c && d && e && f) g h6 in
       let (x0, x1, x2, x3, x4, x5) = six-tests a b c d e f .0 h5 in
       (x0, x1, x2, x3, x4, x5, x6, x7)),
-    (λ (x0, x1, x2, x3, x4, x5, x6, x7).
-      and-of (a && b && c && d && e && f && g) k (and-of (a && b && c && d && e && f) g (six-tests a b c d e f .1 (x0, x1, x2, x3, x4, x5)) x6) x7))
+  (λ (x0, x1, x2, x3, x4, x5, x6, x7).
+      and-of (a && b && c && d && e && f && g) k (and-of (a && b && c && d && e && f) g (six-tests a b c d e f .1 (x0, x1, x2, x3, x4, x5)) x6) x7),
+)
 
 nil-facts : (below : List Node) (n : Node) → n .kind ≡ 0 → T (nilRule below n) ↔ NilFacts (length below) n
 unfolding nilRule
 nil-facts below n k =
     let t = six-tests (eqb (length below) 0) (eqb (n .a) 0) (eqb (n .b) 0) (eqb (n .c) 0) (eqb (n .height) 0) (eqb (n .reach) 0) in (
-    (λ h. let (x0, x1, x2, x3, x4, x5) = t .0 h in
-      record { first = eqb→eq _ _ x0; kind0 = k; a0 = eqb→eq _ _ x1; b0 = eqb→eq _ _ x2; c0 = eqb→eq _ _ x3; height0 = eqb→eq _ _ x4; reach0 = eqb→eq _ _ x5 }),
-    (λ r. t .1 (eq→eqb _ _ (r .first), eq→eqb _ _ (r .a0), eq→eqb _ _ (r .b0), eq→eqb _ _ (r .c0), eq→eqb _ _ (r .height0), eq→eqb _ _ (r .reach0))))
+      (λ h. let (x0, x1, x2, x3, x4, x5) = t .0 h in
+          record { first = eqb→eq _ _ x0; kind0 = k; a0 = eqb→eq _ _ x1; b0 = eqb→eq _ _ x2; c0 = eqb→eq _ _ x3; height0 = eqb→eq _ _ x4; reach0 = eqb→eq _ _ x5 }),
+      (λ r. t .1 (eq→eqb _ _ (r .first), eq→eqb _ _ (r .a0), eq→eqb _ _ (r .b0), eq→eqb _ _ (r .c0), eq→eqb _ _ (r .height0), eq→eqb _ _ (r .reach0))),
+    )
 
 cons-facts : (used : ℕ) (below : List Node) (n : Node) → n .kind ≡ 1 → T (consRule used below n) ↔ ConsFacts used below (length below) n
 unfolding consRule
 cons-facts used below n k =
     let t = six-tests (leb 1 (n .b)) (leb (n .a + n .b) used) (ltb (n .c) (length below)) (leb ((nodeAt below (n .c)) .kind) 1)
-        (eqb (n .height) 1) (eqb (n .reach) (reachOf below (n .b) (n .c))) in (
-    (λ h. let (x0, x1, x2, x3, x4, x5) = t .0 h in
-      record { kind1 = k; some-terms = leb→le _ _ x0; inside-terms = leb→le _ _ x1; tail-low = ltb→lt _ _ x2; tail-kind = leb→le _ _ x3;
-        height1 = eqb→eq _ _ x4; reach1 = eqb→eq _ _ x5 }),
-    (λ r. t .1 (le→leb _ _ (r .some-terms), le→leb _ _ (r .inside-terms), lt→ltb _ _ (r .tail-low), le→leb _ _ (r .tail-kind),
-      eq→eqb _ _ (r .height1), eq→eqb _ _ (r .reach1))))
+    (eqb (n .height) 1) (eqb (n .reach) (reachOf below (n .b) (n .c))) in (
+      (λ h. let (x0, x1, x2, x3, x4, x5) = t .0 h in
+          record {
+            kind1 = k;
+            some-terms = leb→le _ _ x0;
+            inside-terms = leb→le _ _ x1;
+            tail-low = ltb→lt _ _ x2;
+            tail-kind = leb→le _ _ x3;
+            height1 = eqb→eq _ _ x4;
+            reach1 = eqb→eq _ _ x5;
+          }),
+      (λ r. t .1 (
+        le→leb _ _ (r .some-terms),
+        le→leb _ _ (r .inside-terms),
+        lt→ltb _ _ (r .tail-low),
+        le→leb _ _ (r .tail-kind),
+        eq→eqb _ _ (r .height1),
+        eq→eqb _ _ (r .reach1),
+      )),
+    )
 
 concat-facts : (below : List Node) (n : Node) → n .kind ≡ 2 → T (concatRule below n) ↔ ConcatFacts below (length below) n
 unfolding concatRule
 concat-facts below n k =
     let t = eight-tests (ltb (n .a) (length below)) (ltb (n .c) (length below)) (leb 1 ((nodeAt below (n .a)) .kind)) (leb 1 ((nodeAt below (n .c)) .kind))
-        (leb 1 (n .b)) (leb (n .b) ((nodeAt below (n .a)) .reach)) (eqb (n .height) (heightOf below (n .a) (n .c))) (eqb (n .reach) (reachOf below (n .b) (n .c))) in (
-    (λ h. let (x0, x1, x2, x3, x4, x5, x6, x7) = t .0 h in
-      record { kind2 = k; left-low = ltb→lt _ _ x0; right-low = ltb→lt _ _ x1; left-some = leb→le _ _ x2; right-some = leb→le _ _ x3; some-left = leb→le _ _ x4;
-        left-reach = leb→le _ _ x5; height2 = eqb→eq _ _ x6; reach2 = eqb→eq _ _ x7 }),
-    (λ r. t .1 (lt→ltb _ _ (r .left-low), lt→ltb _ _ (r .right-low), le→leb _ _ (r .left-some), le→leb _ _ (r .right-some), le→leb _ _ (r .some-left),
-      le→leb _ _ (r .left-reach), eq→eqb _ _ (r .height2), eq→eqb _ _ (r .reach2))))
+    (leb 1 (n .b)) (leb (n .b) ((nodeAt below (n .a)) .reach)) (eqb (n .height) (heightOf below (n .a) (n .c))) (eqb (n .reach) (reachOf below (n .b) (n .c))) in (
+      (λ h. let (x0, x1, x2, x3, x4, x5, x6, x7) = t .0 h in
+          record {
+            kind2 = k;
+            left-low = ltb→lt _ _ x0;
+            right-low = ltb→lt _ _ x1;
+            left-some = leb→le _ _ x2;
+            right-some = leb→le _ _ x3;
+            some-left = leb→le _ _ x4;
+            left-reach = leb→le _ _ x5;
+            height2 = eqb→eq _ _ x6;
+            reach2 = eqb→eq _ _ x7;
+          }),
+      (λ r. t .1 (
+        lt→ltb _ _ (r .left-low),
+        lt→ltb _ _ (r .right-low),
+        le→leb _ _ (r .left-some),
+        le→leb _ _ (r .right-some),
+        le→leb _ _ (r .some-left),
+        le→leb _ _ (r .left-reach),
+        eq→eqb _ _ (r .height2),
+        eq→eqb _ _ (r .reach2),
+      )),
+    )
 
 pub node-facts : (used : ℕ) (below : List Node) (n : Node) → T (nodeRule used below n) → NodeFacts used below (length below) n
 unfolding nodeRule nodeRuleK
@@ -177,20 +212,37 @@ node-at used ns i g lt = go (node-facts used (take i ns) (nodeAt ns i) (each-at 
   where
     tl : length (take i ns) ≡ i
     tl = length-take-le i ns (omega arith)
+
     go : NodeFacts used (take i ns) (length (take i ns)) (nodeAt ns i) → NodeAt used ns i
     go (inl n) = inl (rw tl at n)
     go (inr (inl n)) =
         let l : (nodeAt ns i) .c < i = omega (arith, tl) in
         let e = getD-take i ns ((nodeAt ns i) .c) nilNode l in
-        inr (inl (record { kind1 = n .kind1; some-terms = n .some-terms; inside-terms = n .inside-terms; tail-low = l; tail-kind = rw e at (n .tail-kind);
-          height1 = n .height1; reach1 = rw e at (n .reach1) }))
+        inr (inl (record {
+          kind1 = n .kind1;
+          some-terms = n .some-terms;
+          inside-terms = n .inside-terms;
+          tail-low = l;
+          tail-kind = rw e at (n .tail-kind);
+          height1 = n .height1;
+          reach1 = rw e at (n .reach1);
+        }))
     go (inr (inr n)) =
         let l : (nodeAt ns i) .a < i = omega (arith, tl) in
         let r : (nodeAt ns i) .c < i = omega (arith, tl) in
         let e = getD-take i ns ((nodeAt ns i) .a) nilNode l in
         let q = getD-take i ns ((nodeAt ns i) .c) nilNode r in
-        inr (inr (record { kind2 = n .kind2; left-low = l; right-low = r; left-some = rw e at (n .left-some); right-some = rw q at (n .right-some);
-          some-left = n .some-left; left-reach = rw e at (n .left-reach); height2 = rw (e, q) at (n .height2); reach2 = rw q at (n .reach2) }))
+        inr (inr (record {
+          kind2 = n .kind2;
+          left-low = l;
+          right-low = r;
+          left-some = rw e at (n .left-some);
+          right-some = rw q at (n .right-some);
+          some-left = n .some-left;
+          left-reach = rw e at (n .left-reach);
+          height2 = rw (e, q) at (n .height2);
+          reach2 = rw q at (n .reach2);
+        }))
 
 pub nil-first : (used : ℕ) (ns : List Node) → GoodNodes used ns → (nodeAt ns 0) .kind ≡ 0
 nil-first used ns g = go (node-at used ns 0 g (nodes-there used ns g))
@@ -245,7 +297,7 @@ pub meaning-concat : {X : Type 0} (xs : List X) (ns : List Node) (i : ℕ) → i
 unfolding meaningK
 meaning-concat xs ns i lt n = meaning-at xs ns i lt ∙ of-kind xs (nodeAt ns i) (take i (meanings xs ns)) (n .kind2)
     ∙ ap₂ (λ u v. take ((nodeAt ns i) .b) u ++ v) (getD-take i (meanings xs ns) ((nodeAt ns i) .a) [] (n .left-low))
-      (getD-take i (meanings xs ns) ((nodeAt ns i) .c) [] (n .right-low))
+    (getD-take i (meanings xs ns) ((nodeAt ns i) .c) [] (n .right-low))
 
 -- ---- reach is the number of terms, up to the limit ----
 
@@ -307,25 +359,36 @@ pub made-cons : {X : Type 0} (xs : List X) (ns : List Node) (a b c : ℕ)
     → Made xs ns (makeCons ns a b c) (length ns) (take b (drop a xs) ++ meaning xs ns c)
 unfolding meaningOf meaningK
 made-cons xs ns a b c g h1 h2 h3 h4 = record {
-    good = nodes-snoc (length xs) ns (consNode ns a b c) g
+  good = nodes-snoc (length xs) ns (consNode ns a b c) g
       (inr (inl (record { kind1 = refl; some-terms = h1; inside-terms = h2; tail-low = h3; tail-kind = h4; height1 = refl; reach1 = refl })));
-    grown = (consNode ns a b c ∷ [], refl);
-    below = rw length-append (omega arith);
-    some-node = rw (node-new ns (consNode ns a b c)) (omega arith);
-    shows = meaning-new xs ns (consNode ns a b c) }
+  grown = (consNode ns a b c ∷ [], refl);
+  below = rw length-append (omega arith);
+  some-node = rw (node-new ns (consNode ns a b c)) (omega arith);
+  shows = meaning-new xs ns (consNode ns a b c);
+}
 
 pub made-concat : {X : Type 0} (xs : List X) (ns : List Node) (a b c : ℕ) → GoodNodes (length xs) ns → a < length ns → c < length ns
     → 1 ≤ (nodeAt ns a) .kind → 1 ≤ (nodeAt ns c) .kind → 1 ≤ b → b ≤ (nodeAt ns a) .reach
     → Made xs ns (makeConcat ns a b c) (length ns) (take b (meaning xs ns a) ++ meaning xs ns c)
 unfolding meaningOf meaningK
 made-concat xs ns a b c g h1 h2 h3 h4 h5 h6 = record {
-    good = nodes-snoc (length xs) ns (concatNode ns a b c) g
-      (inr (inr (record { kind2 = refl; left-low = h1; right-low = h2; left-some = h3; right-some = h4; some-left = h5; left-reach = h6;
-        height2 = refl; reach2 = refl })));
-    grown = (concatNode ns a b c ∷ [], refl);
-    below = rw length-append (omega arith);
-    some-node = rw (node-new ns (concatNode ns a b c)) (omega arith);
-    shows = meaning-new xs ns (concatNode ns a b c) }
+  good = nodes-snoc (length xs) ns (concatNode ns a b c) g
+      (inr (inr (record {
+        kind2 = refl;
+        left-low = h1;
+        right-low = h2;
+        left-some = h3;
+        right-some = h4;
+        some-left = h5;
+        left-reach = h6;
+        height2 = refl;
+        reach2 = refl;
+      })));
+  grown = (concatNode ns a b c ∷ [], refl);
+  below = rw length-append (omega arith);
+  some-node = rw (node-new ns (concatNode ns a b c)) (omega arith);
+  shows = meaning-new xs ns (concatNode ns a b c);
+}
 
 -- ---- fields ----
 
@@ -363,8 +426,15 @@ each-more u v below (n ∷ ns) h k =
   where
     go : NodeFacts u below (length below) n → NodeFacts v below (length below) n
     go (inl x) = inl x
-    go (inr (inl x)) = inr (inl (record { kind1 = x .kind1; some-terms = x .some-terms; inside-terms = omega (arith, x .inside-terms); tail-low = x .tail-low;
-      tail-kind = x .tail-kind; height1 = x .height1; reach1 = x .reach1 }))
+    go (inr (inl x)) = inr (inl (record {
+      kind1 = x .kind1;
+      some-terms = x .some-terms;
+      inside-terms = omega (arith, x .inside-terms);
+      tail-low = x .tail-low;
+      tail-kind = x .tail-kind;
+      height1 = x .height1;
+      reach1 = x .reach1;
+    }))
     go (inr (inr x)) = inr (inr x)
 
 pub nodes-more : (u v : ℕ) (ns : List Node) → u ≤ v → T (nodesRule u ns) → T (nodesRule v ns)

@@ -71,7 +71,7 @@ pub unclamp-concat : (ns : List Node) (i len : ℕ) → i < length ns → Concat
 unfolding unclamp
 unclamp-concat ns i len lt m = unclamp-at ns i len lt ∙ unclamp-step (nodeAt ns i) (take i (table unclampOf ns [])) len (m .kind2)
     ∙ ap₂ (λ x y. ifDec (decLe len (leftLen ns i)) x y) (ap (λ f. f len) (getD-take i (table unclampOf ns []) (left ns i) (λ z. 0) (m .left-low)))
-      (table-below unclampOf ns i (omega arith))
+    (table-below unclampOf ns i (omega arith))
 
 -- What holds where unclamping stops, and is handed up from the left where it goes on, holds of every node i and the node reached from it.
 pub unclamp-induct : (used : ℕ) (ns : List Node) (len : ℕ) (Q : ℕ → ℕ → Type 0) → GoodNodes used ns
@@ -84,10 +84,12 @@ unclamp-induct used ns len Q g leaf stop down i lt = upto (suc i) i (omega arith
     step : (i : ℕ) → i < length ns → Q (left ns i) (unclamp ns (left ns i) len) → ConcatAt ns i → Dec (len ≤ leftLen ns i) → Q i (unclamp ns i len)
     step i lt q m (yes y) = rw (unclamp-concat ns i len lt m ∙ if-yes (decLe len (leftLen ns i)) _ _ y) (down i (unclamp ns (left ns i) len) lt m y q)
     step i lt q m (no y) = rw (unclamp-concat ns i len lt m ∙ if-no (decLe len (leftLen ns i)) _ _ y) (stop i lt m (omega arith))
+
     cases : (n i : ℕ) → i < suc n → i < length ns → ((j : ℕ) → j < n → j < length ns → Q j (unclamp ns j len)) → NodeAt used ns i → Q i (unclamp ns i len)
     cases n i h lt rec (inl m) = rw (unclamp-leaf ns i len lt (omega arith)) (leaf i lt (omega arith))
     cases n i h lt rec (inr (inl m)) = rw (unclamp-leaf ns i len lt (omega arith)) (leaf i lt (omega arith))
     cases n i h lt rec (inr (inr m)) = step i lt (rec (left ns i) (omega arith) (omega arith)) m (decLe len (leftLen ns i))
+
     upto : (n i : ℕ) → i < n → i < length ns → Q i (unclamp ns i len)
     upto zero i h lt = absurd (omega arith)
     upto (suc n) i h lt = cases n i h lt (λ j. upto n j) (node-at used ns i g lt)
@@ -109,10 +111,15 @@ module _ {X : Type 0} (xs : List X) (ns : List Node) (g : GoodNodes (length xs) 
     where
       here : (i : ℕ) → 1 ≤ (nodeAt ns i) .kind → len ≤ (nodeAt ns i) .reach → Unclamped xs ns i len i
       here i k w = record { lower = omega arith; some-node = k; within = w; shows = refl }
+
       above : (i j : ℕ) → i < length ns → ConcatAt ns i → len ≤ leftLen ns i → Unclamped xs ns (left ns i) len j → Unclamped xs ns i len j
-      above i j lt m q u = record { lower = omega arith; some-node = u .some-node; within = u .within;
+      above i j lt m q u = record {
+        lower = omega arith;
+        some-node = u .some-node;
+        within = u .within;
         shows = u .shows ∙ sym (ap (take len) (meaning-concat xs ns i lt m)
-          ∙ take-left len (leftLen ns i) (meaning xs ns (left ns i)) (meaning xs ns (right ns i)) q (left-fits i lt m)) }
+            ∙ take-left len (leftLen ns i) (meaning xs ns (left ns i)) (meaning xs ns (right ns i)) q (left-fits i lt m));
+      }
 
   -- An unclamped Concat's left is shorter than what is wanted.
   pub unclamp-over : (i len : ℕ) → i < length ns → 2 ≤ (nodeAt ns (unclamp ns i len)) .kind → leftLen ns (unclamp ns i len) < len
@@ -150,16 +157,16 @@ secondTurn zero ns h i j len = base i len
 secondTurn (suc zero) ns h i j len = base i len
 secondTurn (suc (suc k)) ns h i j len =
     ifDec (decLt (leftLen ns j) (len - leftLen ns i))
-      (double (left ns i) (leftLen ns i) (left ns j) (leftLen ns j) (plan ns h (right ns j) (len - leftLen ns i - leftLen ns j)))
-      (base i len)
+    (double (left ns i) (leftLen ns i) (left ns j) (leftLen ns j) (plan ns h (right ns j) (len - leftLen ns i - leftLen ns j)))
+    (base i len)
 
 plan-step : (n : Node) (ns : List Node) (h : ℕ) (below : List (ℕ → Plan)) (len : ℕ) → n .kind ≡ 2 → planOf ns h n below len ≡
     ifDec (decLe len (n .b)) (getD below (n .a) (base 0) len)
     (ifDec (decLt (suc h) (n .height))
-      (ifDec (decLe ((nodeAt ns (n .c)) .height) ((nodeAt ns (n .a)) .height))
-        (single (n .a) (n .b) (getD below (n .c) (base 0) (len - n .b)))
-        (secondK ((nodeAt ns (unclamp ns (n .c) (len - n .b))) .kind) (nodeAt ns (unclamp ns (n .c) (len - n .b))) n (length below) len (len - n .b) below))
-      (base (length below) len))
+    (ifDec (decLe ((nodeAt ns (n .c)) .height) ((nodeAt ns (n .a)) .height))
+    (single (n .a) (n .b) (getD below (n .c) (base 0) (len - n .b)))
+    (secondK ((nodeAt ns (unclamp ns (n .c) (len - n .b))) .kind) (nodeAt ns (unclamp ns (n .c) (len - n .b))) n (length below) len (len - n .b) below))
+    (base (length below) len))
 unfolding planOf planK
 plan-step n ns h below len e = rw e refl
 
@@ -170,7 +177,7 @@ second-same zero ns h i j len lt q = refl
 second-same (suc zero) ns h i j len lt q = refl
 second-same (suc (suc k)) ns h i j len lt q =
     ap (λ f. ifDec (decLt (leftLen ns j) (len - leftLen ns i)) (double (left ns i) (leftLen ns i) (left ns j) (leftLen ns j) (f (len - leftLen ns i - leftLen ns j)))
-      (base i len))
+    (base i len))
     (getD-take i (table (planOf ns h) ns []) (right ns j) (base 0) (q (omega arith)))
 
 -- The plan of a Concat, as the Rust recurses.
@@ -178,35 +185,36 @@ pub plan-concat : (used : ℕ) (ns : List Node) (h i len : ℕ) → GoodNodes us
     → innerRight ns i len < i → plan ns h i len ≡
     ifDec (decLe len (leftLen ns i)) (plan ns h (left ns i) len)
     (ifDec (decLt (suc h) ((nodeAt ns i) .height))
-      (ifDec (decLe ((nodeAt ns (right ns i)) .height) ((nodeAt ns (left ns i)) .height))
-        (single (left ns i) (leftLen ns i) (plan ns h (right ns i) (len - leftLen ns i)))
-        (secondTurn ((nodeAt ns (innerRight ns i len)) .kind) ns h i (innerRight ns i len) len))
-      (base i len))
+    (ifDec (decLe ((nodeAt ns (right ns i)) .height) ((nodeAt ns (left ns i)) .height))
+    (single (left ns i) (leftLen ns i) (plan ns h (right ns i) (len - leftLen ns i)))
+    (secondTurn ((nodeAt ns (innerRight ns i len)) .kind) ns h i (innerRight ns i len) len))
+    (base i len))
 unfolding plan
 plan-concat used ns h i len g lt m u =
     let below = take i (table (planOf ns h) ns []) in
     plan-at ns h i len lt ∙ plan-step (nodeAt ns i) ns h below len (m .kind2)
     ∙ go (length below) (table-below (planOf ns h) ns i (omega arith)) (getD below (left ns i) (base 0)) (getD below (right ns i) (base 0))
-      (getD-take i (table (planOf ns h) ns []) (left ns i) (base 0) (m .left-low)) (getD-take i (table (planOf ns h) ns []) (right ns i) (base 0) (m .right-low))
+    (getD-take i (table (planOf ns h) ns []) (left ns i) (base 0) (m .left-low)) (getD-take i (table (planOf ns h) ns []) (right ns i) (base 0) (m .right-low))
   where
     j : ℕ
     j = innerRight ns i len
+
     lows : NodeAt used ns j → 2 ≤ (nodeAt ns j) .kind → right ns j < i
     lows (inl n) q = absurd (omega arith)
     lows (inr (inl n)) q = absurd (omega arith)
     lows (inr (inr n)) q = omega (arith, u, n .right-low)
+
     go : (w : ℕ) → w ≡ i → (f f′ : ℕ → Plan) → f ≡ plan ns h (left ns i) → f′ ≡ plan ns h (right ns i)
-      → ifDec (decLe len (leftLen ns i)) (f len)
+        → ifDec (decLe len (leftLen ns i)) (f len)
         (ifDec (decLt (suc h) ((nodeAt ns i) .height))
-          (ifDec (decLe ((nodeAt ns (right ns i)) .height) ((nodeAt ns (left ns i)) .height))
-            (single (left ns i) (leftLen ns i) (f′ (len - leftLen ns i)))
-            (secondK ((nodeAt ns j) .kind) (nodeAt ns j) (nodeAt ns i) w len (len - leftLen ns i) (take i (table (planOf ns h) ns []))))
-          (base w len)) ≡
+        (ifDec (decLe ((nodeAt ns (right ns i)) .height) ((nodeAt ns (left ns i)) .height))
+        (single (left ns i) (leftLen ns i) (f′ (len - leftLen ns i)))
+        (secondK ((nodeAt ns j) .kind) (nodeAt ns j) (nodeAt ns i) w len (len - leftLen ns i) (take i (table (planOf ns h) ns []))))
+        (base w len)) ≡
         ifDec (decLe len (leftLen ns i)) (plan ns h (left ns i) len)
         (ifDec (decLt (suc h) ((nodeAt ns i) .height))
-          (ifDec (decLe ((nodeAt ns (right ns i)) .height) ((nodeAt ns (left ns i)) .height))
-            (single (left ns i) (leftLen ns i) (plan ns h (right ns i) (len - leftLen ns i)))
-            (secondTurn ((nodeAt ns j) .kind) ns h i j len))
-          (base i len))
+        (ifDec (decLe ((nodeAt ns (right ns i)) .height) ((nodeAt ns (left ns i)) .height))
+        (single (left ns i) (leftLen ns i) (plan ns h (right ns i) (len - leftLen ns i)))
+        (secondTurn ((nodeAt ns j) .kind) ns h i j len))
+        (base i len))
     go w e f f′ q q′ = rw (e, q, q′, second-same ((nodeAt ns j) .kind) ns h i j len lt (lows (node-at used ns j g (omega (arith, u))))) refl
-

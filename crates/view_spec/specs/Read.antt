@@ -1,6 +1,5 @@
 -- The calls that read fields: flatten and settling (the same choice), starts_with and equality (01, "View fields").
-use mathlib.Core.Path.{_≡_}
-use mathlib.Core.List.{List, [], _∷_}
+use mathlib.Core.List.{List, []}
 use mathlib.Core.Bool.{Bool, true, false, _&&_}
 use lib.Dec.{eqb}
 use lib.ListN.{length, take}
@@ -16,17 +15,20 @@ pub data Place : Type 0 where
 
 -- "the store when the node is one Cons with Nil tail or the length is 0, else a copy"; "length 0 gives start 0".
 unfoldable pub place : List Node → Field → Place
-place ns f = elim (eqb (f .len) 0)
-    [ true ↦ stored noRun
-    | false ↦ elim (eqb ((nodeAt ns (f .node)) .kind) 1 && eqb ((nodeAt ns (f .node)) .c) 0)
-        [ true ↦ stored (record { start = (nodeAt ns (f .node)) .a; len = f .len })
-        | false ↦ scattered ] ]
+place ns f = elim (eqb (f .len) 0) [
+  | true ↦ stored noRun
+  | false ↦ elim (eqb ((nodeAt ns (f .node)) .kind) 1 && eqb ((nodeAt ns (f .node)) .c) 0) [
+    | true ↦ stored (record { start = (nodeAt ns (f .node)) .a; len = f .len })
+    | false ↦ scattered
+  ]
+]
 
 -- The records copied: none, or the field's terms.
 unfoldable pub copyAt : Place → List Term → List Node → Field → List Term
 copyAt (stored r) ts ns f = []
 copyAt scattered ts ns f = holds ts ns f
 
+-- The records that settling or flattening a field copies.
 abbrev pub copy : List Term → List Node → Field → List Term
 copy ts ns f = copyAt (place ns f) ts ns f
 
@@ -35,9 +37,11 @@ unfoldable pub settledAt : Place → ℕ → Field → Run
 settledAt (stored r) used f = r
 settledAt scattered used f = record { start = used; len = f .len }
 
+-- The run that settling gives.
 abbrev pub settledRun : List Term → List Node → Field → Run
 settledRun ts ns f = settledAt (place ns f) (length ts) f
 
+-- A decision, as a test.
 unfoldable pub isYes : {P : Type 0} → Dec P → Bool
 isYes (yes h) = true
 isYes (no h) = false
@@ -46,5 +50,6 @@ isYes (no h) = false
 unfoldable pub equalTerms : List Value → List Value → Bool
 equalTerms x y = isYes (sames? (forms x) (forms y))
 
+-- Whether the first list of terms starts with the second.
 unfoldable pub startsWith : List Value → List Value → Bool
 startsWith x y = isYes (sames? (take (length y) (forms x)) (forms y))

@@ -36,14 +36,15 @@ module _ {X : Type 0} (xs : List X) (ns : List Node) (f : Field) where
       go x y (inr (inr m)) = absurd (omega arith)
       go x y (inr (inl m)) =
           let e : meaning xs ns ((nodeAt ns (f .node)) .c) ≡ [] =
-              ap (meaning xs ns) z ∙ meaning-nil xs ns 0 (nodes-there (length xs) ns g) (nil-first (length xs) ns g) in
+          ap (meaning xs ns) z ∙ meaning-nil xs ns 0 (nodes-there (length xs) ns g) (nil-first (length xs) ns g) in
           let r0 : (nodeAt ns ((nodeAt ns (f .node)) .c)) .reach ≡ 0 =
-              reach-is xs ns g ((nodeAt ns (f .node)) .c) (omega arith) ∙ ap (λ l. min limit (length l)) e ∙ omega arith in
+          reach-is xs ns g ((nodeAt ns (f .node)) .c) (omega arith) ∙ ap (λ l. min limit (length l)) e ∙ omega arith in
           let lb : f .len ≤ (nodeAt ns (f .node)) .b = omega arith in
-          let q : (nodeAt ns (f .node)) .b ≤ length (drop ((nodeAt ns (f .node)) .a) xs) = rw length-drop (omega arith) in
-          (sym (ap (take (f .len)) (meaning-cons xs ns (f .node) x m)
-            ∙ take-left (f .len) ((nodeAt ns (f .node)) .b) (drop ((nodeAt ns (f .node)) .a) xs) (meaning xs ns ((nodeAt ns (f .node)) .c)) lb q),
-          facts-run (length xs) (record { start = (nodeAt ns (f .node)) .a; len = f .len }) (omega arith))
+          let q : (nodeAt ns (f .node)) .b ≤ length (drop ((nodeAt ns (f .node)) .a) xs) = rw length-drop (omega arith) in (
+            sym (ap (take (f .len)) (meaning-cons xs ns (f .node) x m)
+                ∙ take-left (f .len) ((nodeAt ns (f .node)) .b) (drop ((nodeAt ns (f .node)) .a) xs) (meaning xs ns ((nodeAt ns (f .node)) .c)) lb q),
+            facts-run (length xs) (record { start = (nodeAt ns (f .node)) .a; len = f .len }) (omega arith),
+          )
 
   shown : T (nodesRule (length xs) ns) → T (fieldRule ns f) → Shown (place ns f)
   unfolding place Shown
@@ -55,11 +56,13 @@ module _ {X : Type 0} (xs : List X) (ns : List Node) (f : Field) where
       by-node true e =
           let (x, y) = both-of (eqb ((nodeAt ns (f .node)) .kind) 1) (eqb ((nodeAt ns (f .node)) .c) 0) (true-T _ e) in
           one-run g h (eqb→eq _ _ x) (eqb→eq _ _ y)
+
       by-length : (b : Bool) → eqb (f .len) 0 ≡ b
-          → Shown (elim b
-            [ true ↦ stored noRun
+          → Shown (elim b [
+            | true ↦ stored noRun
             | false ↦ elim (eqb ((nodeAt ns (f .node)) .kind) 1 && eqb ((nodeAt ns (f .node)) .c) 0)
-                [ true ↦ stored (record { start = (nodeAt ns (f .node)) .a; len = f .len }) | false ↦ scattered ] ])
+                [ true ↦ stored (record { start = (nodeAt ns (f .node)) .a; len = f .len }) | false ↦ scattered ]
+          ])
       by-length false e = by-node (eqb ((nodeAt ns (f .node)) .kind) 1 && eqb ((nodeAt ns (f .node)) .c) 0) refl
       by-length true e =
           let z : f .len ≡ 0 = eqb→eq _ _ (true-T _ e) in
@@ -85,5 +88,6 @@ pub starts-with : (x y : List Value) → (startsWith x y ≡ true) ↔ ((rest : 
 unfolding startsWith
 starts-with x y =
     let d = is-yes (sames? (take (length y) (forms x)) (forms y)) in (
-    (λ e. (drop (length y) (forms x), sym (take-append-drop (length y) (forms x)) ∙ ap (_++ drop (length y) (forms x)) (d .0 e))),
-    (λ (rest, e). d .1 (ap (take (length y)) e ∙ take-at (forms y) rest (length y) (length-map y canon))))
+      (λ e. (drop (length y) (forms x), sym (take-append-drop (length y) (forms x)) ∙ ap (_++ drop (length y) (forms x)) (d .0 e))),
+      (λ (rest, e). d .1 (ap (take (length y)) e ∙ take-at (forms y) rest (length y) (length-map y canon))),
+    )

@@ -11,29 +11,30 @@ use Rattle.view_spec.specs.Build.{makeCons, makeConcat, ifDec}
 abbrev pub Rested : Type 0
 Rested = List Node × ℕ × ℕ
 
--- The loop from one node on: the nodes, the node, the terms left to drop, those dropped so far. "drop_front" starts it with none.
+-- The loop from one node on: the nodes, the node, the terms left to drop, those dropped so far. drop_front starts it with none.
 abbrev pub DropLoop : Type 0
 DropLoop = List Node → ℕ → ℕ → ℕ → Rested
 
--- "node = if is_nil(&rest) { right } else { make_concat(rest, *left_len - inner, right) }", "dropped += inner"
+-- After the drop inside a left: the right alone where Nil is left of the left, else a Concat that keeps what remains of the left length.
+-- The terms that the inner drop dropped count as dropped.
 unfoldable pub rustUnder : ℕ → ℕ → ℕ → Rested → Rested
 rustUnder leftLen right dropped t =
     ifDec (ℕ-discrete ((nodeAt (t .0) (t .1)) .kind) 0) (t .0, right, dropped + t .2)
-      (makeConcat (t .0) (t .1) (leftLen - t .2) right, length (t .0), dropped + t .2)
+    (makeConcat (t .0) (t .1) (leftLen - t .2) right, length (t .0), dropped + t .2)
 
--- "match &*node"; where `left` becomes 0 the loop ends.
+-- One round, by the kind of the node; Nil ends the loop, and so does a round after which no term is left to drop.
 unfoldable pub rustMatch : ℕ → DropLoop → DropLoop
 rustMatch zero loop ns i left dropped = (ns, i, dropped)
 rustMatch (suc zero) loop ns i left dropped =
     ifDec (decLt left ((nodeAt ns i) .b))
-      (makeCons ns ((nodeAt ns i) .a + left) ((nodeAt ns i) .b - left) ((nodeAt ns i) .c), length ns, dropped + left)
-      (loop ns ((nodeAt ns i) .c) (left - (nodeAt ns i) .b) (dropped + (nodeAt ns i) .b))
+    (makeCons ns ((nodeAt ns i) .a + left) ((nodeAt ns i) .b - left) ((nodeAt ns i) .c), length ns, dropped + left)
+    (loop ns ((nodeAt ns i) .c) (left - (nodeAt ns i) .b) (dropped + (nodeAt ns i) .b))
 rustMatch (suc (suc k)) loop ns i left dropped =
     ifDec (decLt left ((nodeAt ns i) .b))
-      (rustUnder ((nodeAt ns i) .b) ((nodeAt ns i) .c) dropped (loop ns ((nodeAt ns i) .a) left 0))
-      (loop ns ((nodeAt ns i) .c) (left - (nodeAt ns i) .b) (dropped + (nodeAt ns i) .b))
+    (rustUnder ((nodeAt ns i) .b) ((nodeAt ns i) .c) dropped (loop ns ((nodeAt ns i) .a) left 0))
+    (loop ns ((nodeAt ns i) .c) (left - (nodeAt ns i) .b) (dropped + (nodeAt ns i) .b))
 
--- "while left > 0"
+-- Whether there is a further round: only while terms are left to drop.
 unfoldable pub rustDrop : ℕ → DropLoop
 rustDrop zero ns i left dropped = (ns, i, dropped)
 rustDrop (suc f) ns i left dropped = ifDec (ℕ-discrete left 0) (ns, i, dropped) (rustMatch ((nodeAt ns i) .kind) (rustDrop f) ns i left dropped)

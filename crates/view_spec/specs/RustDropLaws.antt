@@ -26,7 +26,7 @@ module _ {X : Type 0} (xs : List X) (ns : List Node) (g : GoodNodes (length xs) 
       let s = shrink-made xs (dropPlan ns i k) ns g (d .lasts) in
       let l = ap length (s .shows ∙ d .shows) ∙ length-drop k (meaning xs ns i) in
       node-some (length xs) (shrink (dropPlan ns i k) ns) (dropNode (dropPlan ns i k) ns) (s .good) (s .below)
-        (omega (arith, reach-is xs (shrink (dropPlan ns i k) ns) (s .good) (dropNode (dropPlan ns i k) ns) (s .below)))
+      (omega (arith, reach-is xs (shrink (dropPlan ns i k) ns) (s .good) (dropNode (dropPlan ns i k) ns) (s .below)))
 
   under-done : (b c d k : ℕ) (p : Drop) → 1 ≤ (nodeAt (shrink p ns) (dropNode p ns)) .kind → rustUnder b c d (dropDone ns k p) ≡ dropDone ns (d + k) (under p (b - k) c)
   unfolding rustUnder dropDone shrink dropNode
@@ -50,32 +50,34 @@ module _ {X : Type 0} (xs : List X) (ns : List Node) (g : GoodNodes (length xs) 
       -- Past the whole run or left, on the tail or right.
       past : Agrees f → (nodeAt ns i) .c < i → (nodeAt ns i) .b ≤ suc k → length (meaning xs ns i) ≡ (nodeAt ns i) .b + length (meaning xs ns ((nodeAt ns i) .c))
           → rustDrop f ns ((nodeAt ns i) .c) (suc k - (nodeAt ns i) .b) (d + (nodeAt ns i) .b)
-            ≡ dropDone ns (d + suc k) (dropPlan ns ((nodeAt ns i) .c) (suc k - (nodeAt ns i) .b))
+          ≡ dropDone ns (d + suc k) (dropPlan ns ((nodeAt ns i) .c) (suc k - (nodeAt ns i) .b))
       past rec low le l =
           let e : d + (nodeAt ns i) .b + (suc k - (nodeAt ns i) .b) ≡ d + suc k = omega arith in
           rec ((nodeAt ns i) .c) (suc k - (nodeAt ns i) .b) (d + (nodeAt ns i) .b) (omega arith) (omega arith) (omega arith)
           ∙ ap (λ z. dropDone ns z (dropPlan ns ((nodeAt ns i) .c) (suc k - (nodeAt ns i) .b))) e
+
       -- Within the left.
       within : Agrees f → (m : ConcatAt ns i) → suc k < (nodeAt ns i) .b
           → rustUnder ((nodeAt ns i) .b) ((nodeAt ns i) .c) d (rustDrop f ns ((nodeAt ns i) .a) (suc k) 0)
-            ≡ dropDone ns (d + suc k) (under (dropPlan ns ((nodeAt ns i) .a) (suc k)) ((nodeAt ns i) .b - suc k) ((nodeAt ns i) .c))
+          ≡ dropDone ns (d + suc k) (under (dropPlan ns ((nodeAt ns i) .a) (suc k)) ((nodeAt ns i) .b - suc k) ((nodeAt ns i) .c))
       within rec m y =
           let q = left-fits xs ns g i lt m in
           let e : 0 + suc k ≡ suc k = omega arith in
           ap (rustUnder ((nodeAt ns i) .b) ((nodeAt ns i) .c) d)
-            (rec ((nodeAt ns i) .a) (suc k) 0 (omega arith) (omega arith) (omega arith) ∙ ap (λ z. dropDone ns z (dropPlan ns ((nodeAt ns i) .a) (suc k))) e)
+          (rec ((nodeAt ns i) .a) (suc k) 0 (omega arith) (omega arith) (omega arith) ∙ ap (λ z. dropDone ns z (dropPlan ns ((nodeAt ns i) .a) (suc k))) e)
           ∙ under-done ((nodeAt ns i) .b) ((nodeAt ns i) .c) d (suc k) (dropPlan ns ((nodeAt ns i) .a) (suc k))
-            (left-some ((nodeAt ns i) .a) (suc k) (omega arith) (omega arith))
+          (left-some ((nodeAt ns i) .a) (suc k) (omega arith) (omega arith))
+
       go : Agrees f → NodeAt (length xs) ns i
           → rustMatch ((nodeAt ns i) .kind) (rustDrop f) ns i (suc k) d ≡ dropDone ns (d + suc k) (dropPlan ns i (suc k))
       go rec (inl m) = absurd (omega (arith, ap length (meaning-nil xs ns i lt (m .kind0))))
       go rec (inr (inl m)) =
           rw (m .kind1) (if-both (dropDone ns (d + suc k)) (decLt (suc k) ((nodeAt ns i) .b)) _ _ _ _ (λ y. refl)
-            (λ y. past rec (m .tail-low) (omega arith) (cons-length xs ns i lt m)))
+          (λ y. past rec (m .tail-low) (omega arith) (cons-length xs ns i lt m)))
           ∙ ap (dropDone ns (d + suc k)) (sym (drop-cons (length xs) ns i (suc k) lt m (omega arith)))
       go rec (inr (inr m)) =
           rw (m .kind2) (if-both (dropDone ns (d + suc k)) (decLt (suc k) ((nodeAt ns i) .b)) _ _ _ _ (λ y. within rec m y)
-            (λ y. past rec (m .right-low) (omega arith) (concat-length xs ns i lt m (left-fits xs ns g i lt m))))
+          (λ y. past rec (m .right-low) (omega arith) (concat-length xs ns i lt m (left-fits xs ns g i lt m))))
           ∙ ap (dropDone ns (d + suc k)) (sym (drop-concat ns i (suc k) lt m (omega arith)))
 
 -- The call: the nodes, the node and the count dropped, by which the field's length is lowered.

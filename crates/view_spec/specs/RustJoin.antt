@@ -11,41 +11,46 @@ use Rattle.view_spec.specs.Build.{makeConcat, ifDec, unclamp}
 abbrev pub Joined : Type 0
 Joined = List Node × ℕ
 
+-- make_concat: one node more, and its number.
 unfoldable pub rustConcat : List Node → ℕ → ℕ → ℕ → Joined
 rustConcat ns l n r = (makeConcat ns l n r, length ns)
 
--- make_concat(a, b, tail)
+-- The Concat of a's first b terms before the node that the recursion handed back.
 unfoldable pub rustOuter : ℕ → ℕ → Joined → Joined
 rustOuter a b t = rustConcat (t .0) a b (t .1)
 
+-- The recursive call: nodes, left node and length, right node and length.
 abbrev pub Recursion : Type 0
 Recursion = List Node → ℕ → ℕ → ℕ → ℕ → Joined
 
--- "if let Node::Concat(lower_left, lower_left_len, lower_right, _) = &*inner_right && inner_right_len > *lower_left_len"; m is inner_right
+-- Asked where inner_right is the taller child; m is inner_right unclamped. It turns twice when m is a Concat and the terms wanted of m
+-- go past m's own left: the head is made first, then the recursion on m's right, then the Concat of both. Else the plain Concat.
 unfoldable pub rustDouble : ℕ → Recursion → List Node → ℕ → ℕ → ℕ → ℕ → ℕ → Joined
 rustDouble zero rec ns l m n r k = rustConcat ns l n r
 rustDouble (suc zero) rec ns l m n r k = rustConcat ns l n r
 rustDouble (suc (suc j)) rec ns l m n r k =
     ifDec (decLt ((nodeAt ns m) .b) (n - (nodeAt ns l) .b))
-      (rustOuter (length ns) ((nodeAt ns l) .b + (nodeAt ns m) .b)
-        (rec (makeConcat ns ((nodeAt ns l) .a) ((nodeAt ns l) .b) ((nodeAt ns m) .a)) ((nodeAt ns m) .c) (n - (nodeAt ns l) .b - (nodeAt ns m) .b) r k))
-      (rustConcat ns l n r)
+    (rustOuter (length ns) ((nodeAt ns l) .b + (nodeAt ns m) .b)
+    (rec (makeConcat ns ((nodeAt ns l) .a) ((nodeAt ns l) .b) ((nodeAt ns m) .a)) ((nodeAt ns m) .c) (n - (nodeAt ns l) .b - (nodeAt ns m) .b) r k))
+    (rustConcat ns l n r)
 
--- "let Node::Concat(inner_left, inner_left_len, inner_right, _) = &*left && left_len > *inner_left_len", then the single rotation
+-- A left that is no Concat, or gives no more than its own left, is not turned. Else one turn serves when inner_left is at least as tall
+-- as inner_right: the recursion on inner_right, then the Concat of inner_left before it.
 unfoldable pub rustSingle : ℕ → Recursion → List Node → ℕ → ℕ → ℕ → ℕ → Joined
 rustSingle zero rec ns l n r k = rustConcat ns l n r
 rustSingle (suc zero) rec ns l n r k = rustConcat ns l n r
 rustSingle (suc (suc j)) rec ns l n r k =
     ifDec (decLt ((nodeAt ns l) .b) n)
-      (ifDec (decLe ((nodeAt ns ((nodeAt ns l) .c)) .height) ((nodeAt ns ((nodeAt ns l) .a)) .height))
-        (rustOuter ((nodeAt ns l) .a) ((nodeAt ns l) .b) (rec ns ((nodeAt ns l) .c) (n - (nodeAt ns l) .b) r k))
-        (rustDouble ((nodeAt ns (unclamp ns ((nodeAt ns l) .c) (n - (nodeAt ns l) .b))) .kind) rec ns l (unclamp ns ((nodeAt ns l) .c) (n - (nodeAt ns l) .b)) n r k))
-      (rustConcat ns l n r)
+    (ifDec (decLe ((nodeAt ns ((nodeAt ns l) .c)) .height) ((nodeAt ns ((nodeAt ns l) .a)) .height))
+    (rustOuter ((nodeAt ns l) .a) ((nodeAt ns l) .b) (rec ns ((nodeAt ns l) .c) (n - (nodeAt ns l) .b) r k))
+    (rustDouble ((nodeAt ns (unclamp ns ((nodeAt ns l) .c) (n - (nodeAt ns l) .b))) .kind) rec ns l (unclamp ns ((nodeAt ns l) .c) (n - (nodeAt ns l) .b)) n r k))
+    (rustConcat ns l n r)
 
--- "if node_height(&left) > node_height(&right) + 1", both unclamped
+-- Whether a turn is tried at all: the left is more than one taller than the right, both unclamped.
 unfoldable pub rustTurn : Recursion → List Node → ℕ → ℕ → ℕ → ℕ → Joined
 rustTurn rec ns l n r k = ifDec (decLt (suc ((nodeAt ns r) .height)) ((nodeAt ns l) .height)) (rustSingle ((nodeAt ns l) .kind) rec ns l n r k) (rustConcat ns l n r)
 
+-- An empty operand gives the other; else both are unclamped, and the left is perhaps turned.
 unfoldable pub rustJoin : ℕ → Recursion
 rustJoin zero ns l n r k = (ns, l)
 rustJoin (suc f) ns l n r k =

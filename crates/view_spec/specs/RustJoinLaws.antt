@@ -36,20 +36,28 @@ concat-kept ns new i lt m =
     let e = node-kept ns new i lt in
     let ea : nodeAt (ns ++ new) (left ns i) ≡ nodeAt ns (left ns i) = node-kept ns new (left ns i) (omega arith) in
     let ec : nodeAt (ns ++ new) (right ns i) ≡ nodeAt ns (right ns i) = node-kept ns new (right ns i) (omega arith) in
-    record { kind2 = rw e (m .kind2); left-low = rw e (m .left-low); right-low = rw e (m .right-low); left-some = rw (e, ea) (m .left-some);
-      right-some = rw (e, ec) (m .right-some); some-left = rw e (m .some-left); left-reach = rw (e, ea) (m .left-reach);
-      height2 = rw (e, ea, ec) (m .height2); reach2 = rw (e, ec) (m .reach2) }
+    record {
+      kind2 = rw e (m .kind2);
+      left-low = rw e (m .left-low);
+      right-low = rw e (m .right-low);
+      left-some = rw (e, ea) (m .left-some);
+      right-some = rw (e, ec) (m .right-some);
+      some-left = rw e (m .some-left);
+      left-reach = rw (e, ea) (m .left-reach);
+      height2 = rw (e, ea, ec) (m .height2);
+      reach2 = rw (e, ec) (m .reach2);
+    }
 
 second-kept : (k : ℕ) (ns new : List Node) (h i j len : ℕ) → i < length ns → j < length ns
     → (2 ≤ k → leftLen ns j < len - leftLen ns i
-      → plan (ns ++ new) h (right ns j) (len - leftLen ns i - leftLen ns j) ≡ plan ns h (right ns j) (len - leftLen ns i - leftLen ns j))
+    → plan (ns ++ new) h (right ns j) (len - leftLen ns i - leftLen ns j) ≡ plan ns h (right ns j) (len - leftLen ns i - leftLen ns j))
     → secondTurn k (ns ++ new) h i j len ≡ secondTurn k ns h i j len
 unfolding secondTurn
 second-kept zero ns new h i j len li lj f = refl
 second-kept (suc zero) ns new h i j len li lj f = refl
 second-kept (suc (suc k)) ns new h i j len li lj f = rw (node-kept ns new i li, node-kept ns new j lj, left, leftLen, right)
     (if-both (λ p. p) (decLt (leftLen ns j) (len - leftLen ns i)) _ _ _ _
-      (λ y. ap (double (left ns i) (leftLen ns i) (left ns j) (leftLen ns j)) (f (omega arith) y)) (λ y. refl))
+    (λ y. ap (double (left ns i) (leftLen ns i) (left ns j) (leftLen ns j)) (f (omega arith) y)) (λ y. refl))
 
 branches-kept : {P Q R : Type 0} (d1 : Dec P) (d2 : Dec Q) (d3 : Dec R) (a b i len : ℕ) (pa pa′ ps ps′ pl pl′ : Plan) → (P → pa ≡ pa′) → ps ≡ ps′ → pl ≡ pl′
     → ifDec d1 pa (ifDec d2 (ifDec d3 (single a b ps) pl) (base i len)) ≡ ifDec d1 pa′ (ifDec d2 (ifDec d3 (single a b ps′) pl′) (base i len))
@@ -65,7 +73,7 @@ module _ {X : Type 0} (xs : List X) where
   plan-down ns h i len g = unclamp-induct (length xs) ns len (λ i j. len ≤ (nodeAt ns i) .reach → plan ns h j len ≡ plan ns h i len) g
       (λ i lt k w. refl) (λ i lt m k w. refl)
       (λ i j lt m k rec w. rec (omega arith)
-        ∙ sym (plan-concat (length xs) ns h i len g lt m (inner-low xs ns g i len lt m w) ∙ if-yes (decLe len (leftLen ns i)) _ _ k)) i
+      ∙ sym (plan-concat (length xs) ns h i len g lt m (inner-low xs ns g i len lt m w) ∙ if-yes (decLe len (leftLen ns i)) _ _ k)) i
 
   kept-upto : (ns new : List Node) (h n i len : ℕ) → Good ns → Good (ns ++ new) → i < n → i < length ns → len ≤ (nodeAt ns i) .reach
       → plan (ns ++ new) h i len ≡ plan ns h i len
@@ -74,8 +82,10 @@ module _ {X : Type 0} (xs : List X) where
     where
       up : i < length (ns ++ new)
       up = rw length-append (omega arith)
+
       leaf : (nodeAt ns i) .kind ≤ 1 → plan (ns ++ new) h i len ≡ plan ns h i len
       leaf k = plan-leaf (ns ++ new) h i len up (rw (node-kept ns new i lt) k) ∙ sym (plan-leaf ns h i len lt k)
+
       go : ((j l : ℕ) → j < n → j < length ns → l ≤ (nodeAt ns j) .reach → plan (ns ++ new) h j l ≡ plan ns h j l) → NodeAt (length xs) ns i
           → plan (ns ++ new) h i len ≡ plan ns h i len
       go rec (inl m) = leaf (omega arith)
@@ -90,11 +100,11 @@ module _ {X : Type 0} (xs : List X) where
           let jk = node-kept ns new (innerRight ns i len) (omega arith) in
           plan-concat (length xs) (ns ++ new) h i len g′ up (concat-kept ns new i lt m) (rw (e, left, leftLen, right, uk) il)
           ∙ rw (e, ea, ec, left, leftLen, right, uk, jk)
-            (branches-kept (decLe len (leftLen ns i)) (decLt (suc h) ((nodeAt ns i) .height)) (decLe ((nodeAt ns (right ns i)) .height) ((nodeAt ns (left ns i)) .height))
-              _ _ i len _ _ _ _ _ _ (λ y. rec (left ns i) len (omega arith) (omega arith) (omega arith))
-              (rec (right ns i) (len - leftLen ns i) (omega arith) (omega arith) (omega arith))
-              (second-kept _ ns new h i (innerRight ns i len) len lt (omega arith)
-                (λ k y. deeper rec (innerRight ns i len) il k y (node-at (length xs) ns (innerRight ns i len) g (omega arith)) u)))
+          (branches-kept (decLe len (leftLen ns i)) (decLt (suc h) ((nodeAt ns i) .height)) (decLe ((nodeAt ns (right ns i)) .height) ((nodeAt ns (left ns i)) .height))
+          _ _ i len _ _ _ _ _ _ (λ y. rec (left ns i) len (omega arith) (omega arith) (omega arith))
+          (rec (right ns i) (len - leftLen ns i) (omega arith) (omega arith) (omega arith))
+          (second-kept _ ns new h i (innerRight ns i len) len lt (omega arith)
+          (λ k y. deeper rec (innerRight ns i len) il k y (node-at (length xs) ns (innerRight ns i len) g (omega arith)) u)))
           ∙ sym (plan-concat (length xs) ns h i len g lt m il)
         where
           deeper : ((j l : ℕ) → j < n → j < length ns → l ≤ (nodeAt ns j) .reach → plan (ns ++ new) h j l ≡ plan ns h j l) → (j : ℕ) → j < i
@@ -146,21 +156,21 @@ module _ {X : Type 0} (xs : List X) where
     where
       down : leftLen ns m < n - leftLen ns l
           → rustOuter (length ns) (leftLen ns l + leftLen ns m)
-            (rustJoin f (makeConcat ns (left ns l) (leftLen ns l) (left ns m)) (right ns m) (n - leftLen ns l - leftLen ns m) r k)
+          (rustJoin f (makeConcat ns (left ns l) (leftLen ns l) (left ns m)) (right ns m) (n - leftLen ns l - leftLen ns m) r k)
           ≡ planDone ns r (double (left ns l) (leftLen ns l) (left ns m) (leftLen ns m) (plan ns ((nodeAt ns r) .height) (right ns m) (n - leftLen ns l - leftLen ns m)))
       down y =
           let ll = pl .below in
           let ms = makeConcat ns (left ns l) (leftLen ns l) (left ns m) in
           let head = made-concat xs ns (left ns l) (leftLen ns l) (left ns m) g (omega arith) (omega arith)
-              (cl .left-some) (o .left-some) (cl .some-left) (cl .left-reach) in
+          (cl .left-some) (o .left-some) (cl .some-left) (cl .left-reach) in
           let new = concatNode ns (left ns l) (leftLen ns l) (left ns m) ∷ [] in
           let q : Piece ns (right ns m) (n - leftLen ns l - leftLen ns m) =
-              record { below = omega arith; some-node = o .right-some; some-len = omega arith; within = omega arith } in
+          record { below = omega arith; some-node = o .right-some; some-len = omega arith; within = omega arith } in
           let u′ = unclamp-kept ns new r k (pr .below) ∙ u in
           ap (rustOuter (length ns) (leftLen ns l + leftLen ns m))
-            (rec-same f eq ms (right ns m) (n - leftLen ns l - leftLen ns m) r k (head .good) (omega arith)
-              (piece-kept ns new q) (piece-kept ns new pr) u′
-            ∙ ap (planDone ms r) (plan-above ns new r (right ns m) (n - leftLen ns l - leftLen ns m) g (head .good) (pr .below) (q .below) (q .within)))
+          (rec-same f eq ms (right ns m) (n - leftLen ns l - leftLen ns m) r k (head .good) (omega arith)
+          (piece-kept ns new q) (piece-kept ns new pr) u′
+          ∙ ap (planDone ms r) (plan-above ns new r (right ns m) (n - leftLen ns l - leftLen ns m) g (head .good) (pr .below) (q .below) (q .within)))
           ∙ double-done ns (left ns l) (leftLen ns l) (left ns m) (leftLen ns m) r _
 
   -- Both operands unclamped.
@@ -174,23 +184,31 @@ module _ {X : Type 0} (xs : List X) where
       ∙ base-done ns l n r ∙ ap (planDone ns r) (sym (plan-leaf ns ((nodeAt ns r) .height) l n (pl .below) (omega arith)))
   turn-same f eq ns l n r k g lt pl pr u ex (inr (inr o)) =
       rw (o .kind2) (if-both (planDone ns r) (decLt (suc ((nodeAt ns r) .height)) ((nodeAt ns l) .height)) _ _ _ _
-        (λ y. if-yes (decLt (leftLen ns l) n) _ _ bl
-          ∙ if-both (planDone ns r) (decLe ((nodeAt ns (right ns l)) .height) ((nodeAt ns (left ns l)) .height)) _ _ _ _ (λ z. one) (λ z. two))
-        (λ y. base-done ns l n r))
+      (λ y. if-yes (decLt (leftLen ns l) n) _ _ bl
+      ∙ if-both (planDone ns r) (decLe ((nodeAt ns (right ns l)) .height) ((nodeAt ns (left ns l)) .height)) _ _ _ _ (λ z. one) (λ z. two))
+      (λ y. base-done ns l n r))
       ∙ ap (planDone ns r) (sym (plan-concat (length xs) ns ((nodeAt ns r) .height) l n g (pl .below) o (inner-low xs ns g l n (pl .below) o (pl .within))
-        ∙ if-no (decLe n (leftLen ns l)) _ _ (λ y. omega (arith, bl))))
+      ∙ if-no (decLe n (leftLen ns l)) _ _ (λ y. omega (arith, bl))))
     where
       bl : leftLen ns l < n
       bl = ex (omega (arith, o .kind2))
+
       q : Piece ns (right ns l) (n - leftLen ns l)
-      q = record { below = omega (arith, pl .below, o .right-low); some-node = o .right-some; some-len = omega (arith, bl);
-        within = omega (arith, pl .within, o .reach2) }
+      q = record {
+        below = omega (arith, pl .below, o .right-low);
+        some-node = o .right-some;
+        some-len = omega (arith, bl);
+        within = omega (arith, pl .within, o .reach2);
+      }
+
       one : rustOuter (left ns l) (leftLen ns l) (rustJoin f ns (right ns l) (n - leftLen ns l) r k)
           ≡ planDone ns r (single (left ns l) (leftLen ns l) (plan ns ((nodeAt ns r) .height) (right ns l) (n - leftLen ns l)))
       one = ap (rustOuter (left ns l) (leftLen ns l)) (rec-same f eq ns (right ns l) (n - leftLen ns l) r k g (omega (arith, o .right-low)) q pr u)
           ∙ single-done ns (left ns l) (leftLen ns l) r _
+
       um : Unclamped xs ns (right ns l) (n - leftLen ns l) (innerRight ns l n)
       um = unclamped xs ns g (right ns l) (n - leftLen ns l) (q .below) (q .some-node) (q .within)
+
       two : rustDouble ((nodeAt ns (innerRight ns l n)) .kind) (rustJoin f) ns l (innerRight ns l n) n r k
           ≡ planDone ns r (secondTurn ((nodeAt ns (innerRight ns l n)) .kind) ns ((nodeAt ns r) .height) l (innerRight ns l n) n)
       two = double-same f eq ns l (innerRight ns l n) n r k g lt pl pr u o bl um
@@ -207,9 +225,9 @@ module _ {X : Type 0} (xs : List X) where
       let rl : unclamp ns r k < length ns = omega (arith, ur .lower, pr .below) in
       if-no (ℕ-discrete n 0) _ _ (λ e. omega (arith, pl .some-len)) ∙ if-no (ℕ-discrete k 0) _ _ (λ e. omega (arith, pr .some-len))
       ∙ turn-same f (rust-plan f) ns (unclamp ns l n) n (unclamp ns r k) k g (omega (arith, ul .lower))
-          (record { below = ll; some-node = ul .some-node; some-len = pl .some-len; within = ul .within })
-          (record { below = rl; some-node = ur .some-node; some-len = pr .some-len; within = ur .within })
-          (unclamp-twice xs ns g r k (pr .below)) (λ y. unclamp-over xs ns g l n (pl .below) y) (node-at (length xs) ns (unclamp ns l n) g ll)
+      (record { below = ll; some-node = ul .some-node; some-len = pl .some-len; within = ul .within })
+      (record { below = rl; some-node = ur .some-node; some-len = pr .some-len; within = ur .within })
+      (unclamp-twice xs ns g r k (pr .below)) (λ y. unclamp-over xs ns g l n (pl .below) y) (node-at (length xs) ns (unclamp ns l n) g ll)
       ∙ ap (planDone ns (unclamp ns r k)) (plan-down ns ((nodeAt ns (unclamp ns r k)) .height) l n g (pl .below) (pl .within))
 
   -- The call as a whole, empty operands included.
@@ -220,6 +238,7 @@ module _ {X : Type 0} (xs : List X) where
     where
       turn : Joined
       turn = rustTurn (rustJoin (f .node)) ns (unclamp ns (f .node) (f .len)) (f .len) (unclamp ns (g .node) (g .len)) (g .len)
+
       by : (d : Dec (f .len ≡ 0)) (d′ : Dec (g .len ≡ 0))
           → ifDec d (ns, g .node) (ifDec d′ (ns, f .node) turn) ≡ ((joinBy d d′ f g ns) .nodes, ((joinBy d d′ f g ns) .field) .node)
       by (yes e) d′ = refl
@@ -227,4 +246,4 @@ module _ {X : Type 0} (xs : List X) where
       by (no e) (no e′) =
           sym (if-no (ℕ-discrete (f .len) 0) (ns, g .node) (ifDec (ℕ-discrete (g .len) 0) (ns, f .node) turn) e ∙ if-no (ℕ-discrete (g .len) 0) (ns, f .node) turn e′)
           ∙ rust-plan (suc (f .node)) ns (f .node) (f .len) (g .node) (g .len) gn (omega arith)
-            (field-piece xs ns f gn hf (omega arith)) (field-piece xs ns g gn hg (omega arith))
+          (field-piece xs ns f gn hf (omega arith)) (field-piece xs ns g gn hg (omega arith))

@@ -109,6 +109,7 @@ lasting names ts g = two-index (Lasting names ts) ts (values names ts) noTerm (c
   where
     cut : {A : Type 0} (i : ℕ) (l more : List A) → take i l ++ (drop i l ++ more) ≡ l ++ more
     cut i l more = sym (append-assoc (take i l) (drop i l) more) ∙ ap (_++ more) (take-append-drop i l)
+
     one : (i : ℕ) → i < length ts → Lasting names ts (getD ts i noTerm) (getD (values names ts) i (char 0))
     one i lt =
         let t = getD ts i noTerm in
@@ -119,7 +120,8 @@ lasting names ts g = two-index (Lasting names ts) ts (values names ts) noTerm (c
         let n = length-take-le i ts (omega arith) ∙ sym (length-take-le i vs (omega arith)) in
         record {
           valid = λ more. subst (λ z. T (termRule names z t)) (cut i ts more) (term-more names (take i ts) (drop i ts ++ more) t k);
-          same = λ more. ap (valueOf names t) (sym (cut i vs more)) ∙ value-more names (take i ts) t (take i vs) (drop i vs ++ more) n k ∙ sym e }
+          same = λ more. ap (valueOf names t) (sym (cut i vs more)) ∙ value-more names (take i ts) t (take i vs) (drop i vs ++ more) n k ∙ sym e;
+        }
 
 copy-values : (names : List ℕ) (ts us : List Term) (vs more : List Value) → Two (Lasting names ts) us vs
     → table (valueOf names) us (values names ts ++ more) ≡ (values names ts ++ more) ++ vs
@@ -163,11 +165,12 @@ settles-by : (names : List ℕ) (ts : List Term) (ns : List Node) (f : Field) (u
     → copy ts ns f ≡ us → settledRun ts ns f ≡ r → T (termsRule names [] (ts ++ us)) → values names (ts ++ us) ≡ values names ts ++ vs
     → r .start + r .len ≤ length (ts ++ us) → part (values names ts ++ vs) r ≡ holds (values names ts) ns f → Settles names ts ns f
 settles-by names ts ns f us vs r e q g s i p = record {
-    good = rw e g;
-    more = vs;
-    spelled = rw e s;
-    inside = rw (e, q) (facts-run (length (ts ++ us)) r i);
-    shows = rw (e, q, s) p }
+  good = rw e g;
+  more = vs;
+  spelled = rw e s;
+  inside = rw (e, q) (facts-run (length (ts ++ us)) r i);
+  shows = rw (e, q, s) p;
+}
 
 pub settles : (names : List ℕ) (ts : List Term) (ns : List Node) (f : Field) → T (termsRule names [] ts) → T (nodesRule (length ts) ns) → T (fieldRule ns f)
     → Settles names ts ns f
@@ -176,20 +179,23 @@ settles names ts ns f gt gn h = go (place ns f) refl
   where
     xs : List Value
     xs = values names ts
+
     us : List Term
     us = holds ts ns f
+
     n : length xs ≡ length ts
     n = values-length names ts
+
     go : (p : Place) → place ns f ≡ p → Settles names ts ns f
     go (stored r) e =
         let (s, i) = place-shows xs ns f r (nodes-values names ts ns gn) h e in
         settles-by names ts ns f [] [] r (ap (λ p. copyAt p ts ns f) e) (ap (λ p. settledAt p (length ts) f) e) (rw append-nil gt)
-          (ap (values names) (append-nil ts) ∙ sym (append-nil xs))
-          (rw append-nil (omega (arith, n, run-facts (length xs) r i))) (ap (λ z. part z r) (append-nil xs) ∙ s)
+        (ap (values names) (append-nil ts) ∙ sym (append-nil xs))
+        (rw append-nil (omega (arith, n, run-facts (length xs) r i))) (ap (λ z. part z r) (append-nil xs) ∙ s)
     go scattered e =
         let two = two-holds (Lasting names ts) ts xs (lasting names ts gt) ns f in
         let m = two-length (Lasting names ts) us (holds xs ns f) two ∙ holds-length xs ns f (nodes-values names ts ns gn) h in
         settles-by names ts ns f us (holds xs ns f) (record { start = length ts; len = f .len }) (ap (λ p. copyAt p ts ns f) e) (ap (λ p. settledAt p (length ts) f) e)
-          (terms-append names ts us gt (rw append-nil at (copy-rule names ts us (holds xs ns f) [] two))) (values-copied names ts us (holds xs ns f) two)
-          (rw length-append (omega arith))
-          (ap (take (f .len)) (drop-at xs (holds xs ns f) (length ts) n) ∙ take-take (f .len) (f .len) (meaning xs ns (f .node)) (omega arith))
+        (terms-append names ts us gt (rw append-nil at (copy-rule names ts us (holds xs ns f) [] two))) (values-copied names ts us (holds xs ns f) two)
+        (rw length-append (omega arith))
+        (ap (take (f .len)) (drop-at xs (holds xs ns f) (length ts) n) ∙ take-take (f .len) (f .len) (meaning xs ns (f .node)) (omega arith))
