@@ -46,7 +46,7 @@ pub record Start (s : Store) : Type 0 where
 
 -- ---- the model, which 01 calls the book ----
 
--- Entries, newest first: a field, and the terms entered for it, as spelled.
+-- 01 calls it the book. Entries, newest first: a field, and the terms entered for it, as spelled.
 abbrev pub Model : Type 0
 Model = List (Field × List Value)
 

@@ -9,10 +9,10 @@ use Rattle.term_spec.specs.Words.{decode, encode, count, whole, records, write}
 use Rattle.term_spec.specs.Text.{isLetter, isDigit, isNameByte, every, identifierText, numberText, variableText, textRule, lower}
 use Rattle.term_spec.specs.Table.{table}
 use Rattle.term_spec.specs.Term.{termOf, runOf, runRule, runsRule, isScalar, depthK, deepest, bracketRule, symbolRule, termRuleK, termRule, termsRule}
-use Rattle.term_spec.specs.Value.{toList, fromList, bracketed, contents, valueK, valueOf, values, canon, canons, heads?, list?, same?, sames?, takesTable, unknownColumn, column, takesRow, row, takes, decided, takes?}
+use Rattle.term_spec.specs.Value.{toList, fromList, bracketed, contents, valueK, valueOf, values, canon, canons, heads?, list?, same?, sames?, takesTable, unknownColumn, column, takesRow, row, takes, decided, takes?, isYes}
 use Rattle.view_spec.specs.Node.{nodeOf, nilRule, consRule, concatRule, nodeRuleK, nodeRule, eachNode, nodesRule, fieldRule, meaningK, meaningOf}
 use Rattle.view_spec.specs.Build.{ifDec, fuseHead, fuseOnto, fuse, chainHead, chain, total, parts, fromRuns, unclampK, unclampOf, unclamp, secondK, planK, planOf, plan, grow, planMakes, joinBy, join, dropK, dropOf, dropPlan, dropMakes, dropNode, shrink, takeField, rest, range}
-use Rattle.view_spec.specs.Read.{place, copyAt, settledAt, isYes, equalTerms, startsWith}
+use Rattle.view_spec.specs.Read.{place, copyAt, settledAt, equalTerms, startsWith}
 use Rattle.match_spec.specs.Pattern.{itemOf, bindingOf, nameAt, name?, findHere, find, addIf, add, namesAfter, number, elementK, element, bindingName, itemRuleK, closeRule, nestRuleK, noneOpen, itemsRule, patternRule, bindingRule, bindingsRule}
 use Rattle.match_spec.specs.Element.{onTop, wrap, push, put, Ones, canonE}
 use Rattle.match_spec.specs.Consistent.{note, openLengths, Lex, Before, Sorted}

@@ -11,13 +11,14 @@ use Rattle.term_spec.specs.ListLaws.{All, all-take}
 use Rattle.term_spec.specs.Words.{count}
 use Rattle.term_spec.specs.WordsLaws.{term-lays, run-lays, write-length, count-fits}
 use Rattle.term_spec.specs.Term.{termLayout, Run, runLayout}
+use Rattle.view_spec.specs.NodeLaws.{node-lays}
 use Rattle.view_spec.specs.Node.{Field, nodeLayout}
 use Rattle.view_spec.specs.Read.{Place, stored, scattered}
 use Rattle.match_spec.specs.Answer.{Wanted, allOfThem, headOnly, slotsIn}
 use Rattle.match_spec.specs.Walk.{hits}
 use Rattle.calls_spec.specs.Store.{Store, capacity, addTerms, addNodes}
 use Rattle.calls_spec.specs.Step.{Request, Call, callFromRuns, callJoin, callTake, callRest, callRange, callStartsWith, callEqual, callFlatten, callMatch, After, slotsLent, workLent, allNames, slotCount, arguments, input, newNodes, fieldCopy, nodeRoom, room, matchEvents, matchProgress, concat, fillSlots, afterMatch, afterFlatten, afterBuild, afterRead, accept, refuse, decide, step}
-use Rattle.calls_spec.specs.StoreLaws.{Good, node-lays, written-length}
+use Rattle.calls_spec.specs.StoreLaws.{Good, written-length}
 use Rattle.calls_spec.specs.StepLaws.{ask-none, input-none, room-nodes}
 use Rattle.calls_spec.specs.SlotLaws.{Sized}
 use Rattle.calls_spec.specs.ListingLaws.{checked, wanted, hits-sized, written-is}

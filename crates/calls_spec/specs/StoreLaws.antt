@@ -10,14 +10,11 @@ use Rattle.term_spec.specs.BoolLaws.{both-of, and-of}
 use Rattle.term_spec.specs.Words.{Layout, decode, count, whole, write}
 use Rattle.term_spec.specs.WordsLaws.{Lays, term-lays, decode-length, decode-write, write-length, count-fits, count-same, whole-same}
 use Rattle.term_spec.specs.Term.{Term, termLayout, Run, limit}
+use Rattle.view_spec.specs.NodeLaws.{node-lays}
 use Rattle.view_spec.specs.Node.{Node, nodeOf, nodeLayout, Field, fieldRule, nodesRule}
 use Rattle.calls_spec.specs.Store.{Store, terms, nodes, spelled, shows, fieldTerms, capacity, countsRule, storeTerms, storeNodes, addTerms, addNodes}
 use Rattle.term_spec.specs.TermLaws.{values-length}
 use Rattle.match_spec.specs.RunLaws.{Inside}
-
-pub node-lays : Lays nodeLayout
-unfolding nodeOf
-node-lays = record { some-words = omega arith; sized = λ r. refl; reads = λ r. refl }
 
 -- None of 1, 2 and 3 applies to the stores.
 pub record Good (s : Store) : Type 0 where

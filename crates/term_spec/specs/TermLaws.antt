@@ -93,7 +93,7 @@ terms-append names ts us h k = append-above names [] ts us h k
 unfoldable pub Valid : List Term → Type 0
 Valid ts = (i : ℕ) → i < length ts → (getD ts i noTerm) .kind ≡ 3 → (getD ts i noTerm) .a + (getD ts i noTerm) .b ≤ i
 
-bracket-of : (k : ℕ) (names : List ℕ) (below : List Term) (t : Term) → k ≡ 3 → T (termRuleK k names below t) → BracketFacts below t
+pub bracket-of : (k : ℕ) (names : List ℕ) (below : List Term) (t : Term) → k ≡ 3 → T (termRuleK k names below t) → BracketFacts below t
 unfolding termRuleK
 bracket-of k names below t e h = bracket-facts below t (rw e at h)
 

@@ -109,6 +109,11 @@ same? = Value-discrete ℕ-discrete (list? ℕ-discrete)
 unfoldable pub sames? : Discrete (List Value)
 sames? = list? same?
 
+-- A decision, as a test.
+unfoldable pub isYes : {P : Type 0} → Dec P → Bool
+isYes (yes h) = true
+isYes (no h) = false
+
 -- "A table fixes which variable takes which kind of term": rows s, t, e; columns Char, Identifier, Number, Bracket, symbol
 -- unknown, term unknown, expression unknown.
 unfoldable pub takesTable : List (List Bool)

@@ -6,7 +6,7 @@ use mathlib.Core.Bool.{Bool, true, false}
 use lib.ListN.{getD}
 use Prim.Native.Nat.{ℕ, suc, zero}
 use native.Mathlib.Omega.{arith}
-use Rattle.term_spec.specs.Value.{Value, Values, char, ident, num, bracket, unknown, nil, cons, toList, fromList, bracketed, contents, canon, canons, Equal, forms, takesTable, unknownColumn, column, takesRow, Single, symbol, term, row, takes}
+use Rattle.term_spec.specs.Value.{Value, Values, char, ident, num, bracket, unknown, nil, cons, toList, fromList, bracketed, contents, canon, canons, Equal, forms, isYes, takesTable, unknownColumn, column, takesRow, Single, symbol, term, row, takes}
 
 to-from : (l : List Value) → toList (fromList l) ≡ l
 unfolding toList fromList
@@ -86,6 +86,24 @@ column-canon (unknown k m i) = refl
 
 pub equal-columns : (v w : Value) → Equal v w → column v ≡ column w
 equal-columns v w e = sym (column-canon v) ∙ ap column e ∙ column-canon w
+
+-- ---- decisions as tests ----
+
+-- The test of a decision: true or false by the fact, another decision's, or a given test's.
+pub is-yes : {P : Type 0} (d : Dec P) → P → isYes d ≡ true
+unfolding isYes
+is-yes (yes p) h = refl
+is-yes (no n) h = absurd (n h)
+
+pub is-no : {P : Type 0} (d : Dec P) → (P → ⊥) → isYes d ≡ false
+unfolding isYes
+is-no (yes p) h = absurd (h p)
+is-no (no n) h = refl
+
+pub alike : {P Q : Type 0} (d : Dec P) (e : Dec Q) → (P → Q) → (Q → P) → isYes d ≡ isYes e
+unfolding isYes
+alike (yes p) e f g = sym (is-yes e (f p))
+alike (no n) e f g = sym (is-no e (λ q. n (g q)))
 
 -- ---- which variable takes which kind of term ----
 

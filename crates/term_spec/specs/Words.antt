@@ -16,6 +16,10 @@ unfoldable pub decode : {A : Type 0} → Layout A → ℕ → List ℕ → List 
 decode L zero w = []
 decode L (suc n) w = L .read (take (L .width) w) ∷ decode L n (drop (L .width) w)
 
+-- Record i of a slice.
+unfoldable pub recordAt : {A : Type 0} → Layout A → List ℕ → ℕ → A
+recordAt L w i = L .read (take (L .width) (drop (i * L .width) w))
+
 -- The words of records, one after another.
 unfoldable pub encode : {A : Type 0} → Layout A → List A → List ℕ
 encode L [] = []

@@ -1,12 +1,12 @@
 -- Reading records after records were written: the laws that see where a record's words lie, once for every kind of record.
 use mathlib.Core.Path.{_≡_, refl, ap, ap₂, sym, _∙_}
 use mathlib.Core.List.{List, [], _∷_, _++_, append-assoc, append-nil}
-use lib.ListN.{length, take, drop, length-append, length-drop, take-append-drop}
-use lib.Seq.{take-append-le, drop-append-le, take-at, drop-at, length-take-le}
-use Prim.Native.Nat.{ℕ, suc, zero, _+_, _*_, _-_, _/_, _%_, _≤_}
+use lib.ListN.{length, getD, take, drop, length-append, length-drop, take-append-drop}
+use lib.Seq.{take-append-le, drop-append-le, take-at, drop-at, drop-drop, length-take-le}
+use Prim.Native.Nat.{ℕ, suc, zero, _+_, _*_, _-_, _/_, _%_, _≤_, _<_}
 use native.Mathlib.Omega.{arith}
-use native.Mathlib.Nat.{suc-mul, le-div-iff-mul-le, mul-le-mul-right}
-use Rattle.term_spec.specs.Words.{Layout, decode, encode, count, whole, records, write}
+use native.Mathlib.Nat.{suc-mul, add-mul, le-div-iff-mul-le, mul-le-mul-right}
+use Rattle.term_spec.specs.Words.{Layout, decode, recordAt, encode, count, whole, records, write}
 use Rattle.term_spec.specs.Term.{termOf, termLayout, runOf, runLayout}
 
 -- A record's words are as many as its width, and mean the record.
@@ -30,6 +30,59 @@ pub decode-length : {A : Type 0} (L : Layout A) (n : ℕ) (w : List ℕ) → len
 unfolding decode
 decode-length L zero w = refl
 decode-length L (suc n) w = ap suc (decode-length L n (drop (L .width) w))
+
+-- the words after i records of those after the first
+next-words : (k i : ℕ) (w : List ℕ) → drop (i * k) (drop k w) ≡ drop (suc i * k) w
+next-words k i w = let z : k + i * k ≡ suc i * k = omega (arith, suc-mul i k) in drop-drop (i * k) k w ∙ ap (λ n. drop n w) z
+
+-- the records after s of them are those of the words after s records
+pub decode-drop : {A : Type 0} (L : Layout A) (n s : ℕ) (w : List ℕ) → drop s (decode L n w) ≡ decode L (n - s) (drop (s * L .width) w)
+unfolding decode
+decode-drop L n zero w = let z : n - zero ≡ n = omega arith in let y : zero * L .width ≡ zero = omega arith in rw (z, y) refl
+decode-drop L zero (suc s) w = let z : zero - suc s ≡ zero = omega arith in rw z refl
+decode-drop L (suc n) (suc s) w =
+    let z : suc n - suc s ≡ n - s = omega arith in
+    decode-drop L n s (drop (L .width) w) ∙ ap (decode L (n - s)) (next-words (L .width) s w) ∙ rw z refl
+
+record-next : {A : Type 0} (L : Layout A) (i : ℕ) (w : List ℕ) → recordAt L (drop (L .width) w) i ≡ recordAt L w (suc i)
+unfolding recordAt
+record-next L i w = ap (λ v. L .read (take (L .width) v)) (next-words (L .width) i w)
+
+-- record i of the words after s records is record s + i
+pub record-drop : {A : Type 0} (L : Layout A) (s i : ℕ) (w : List ℕ) → recordAt L (drop (s * L .width) w) i ≡ recordAt L w (s + i)
+unfolding recordAt
+record-drop L s i w =
+    let z : s * L .width + i * L .width ≡ (s + i) * L .width = sym (add-mul s i (L .width)) in
+    ap (λ v. L .read (take (L .width) v)) (drop-drop (i * L .width) (s * L .width) w ∙ ap (λ k. drop k w) z)
+
+first-record : {A : Type 0} (L : Layout A) (w : List ℕ) → L .read (take (L .width) w) ≡ recordAt L w zero
+unfolding recordAt
+first-record L w = let z : zero * L .width ≡ zero = omega arith in ap (λ k. L .read (take (L .width) (drop k w))) (sym z)
+
+-- entry i of the records read is record i
+pub decode-at : {A : Type 0} (L : Layout A) (n i : ℕ) (w : List ℕ) (d : A) → i < n → getD (decode L n w) i d ≡ recordAt L w i
+unfolding decode
+decode-at L zero i w d h = absurd (omega arith)
+decode-at L (suc n) zero w d h = first-record L w
+decode-at L (suc n) (suc i) w d h = decode-at L n i (drop (L .width) w) d (omega arith) ∙ record-next L i w
+
+-- one record more
+pub decode-snoc : {A : Type 0} (L : Layout A) (n : ℕ) (w : List ℕ) → decode L (suc n) w ≡ decode L n w ++ (recordAt L w n ∷ [])
+unfolding decode
+decode-snoc L zero w = ap (_∷ []) (first-record L w)
+decode-snoc L (suc n) w =
+    ap (L .read (take (L .width) w) ∷_) (decode-snoc L n (drop (L .width) w) ∙ ap (λ r. decode L n (drop (L .width) w) ++ (r ∷ [])) (record-next L n w))
+
+-- the records below i are the first i of them
+pub decode-below : {A : Type 0} (L : Layout A) (n i : ℕ) (w : List ℕ) → i ≤ n → take i (decode L n w) ≡ decode L i w
+unfolding decode
+decode-below L n zero w h = refl
+decode-below L zero (suc i) w h = absurd (omega arith)
+decode-below L (suc n) (suc i) w h = ap (L .read (take (L .width) w) ∷_) (decode-below L n i (drop (L .width) w) (omega arith))
+
+-- a part of the records is the records from its start on
+pub decode-part : {A : Type 0} (L : Layout A) (n a b : ℕ) (w : List ℕ) → a + b ≤ n → take b (drop a (decode L n w)) ≡ decode L b (drop (a * L .width) w)
+decode-part L n a b w h = ap (take b) (decode-drop L n a w) ∙ decode-below L (n - a) b (drop (a * L .width) w) (omega arith)
 
 -- the first n records lie in the first n times width words
 pub decode-append : {A : Type 0} (L : Layout A) (n : ℕ) (w x : List ℕ) → n * L .width ≤ length w → decode L n (w ++ x) ≡ decode L n w
@@ -92,13 +145,9 @@ module _ {A : Type 0} (L : Layout A) (lays : Lays L) where
   unfolding write
   write-length w i rs h =
       let p : i * L .width ≤ (i + length rs) * L .width = mul-le-mul-right (L .width) (omega arith) in
-      let q : (i + length rs) * L .width ≡ i * L .width + length rs * L .width = product-sum i (length rs) (L .width) in
+      let q : (i + length rs) * L .width ≡ i * L .width + length rs * L .width = add-mul i (length rs) (L .width) in
       length-append (take (i * L .width) w ++ encode L rs) (drop ((i + length rs) * L .width) w)
       ∙ omega (arith, length-append (take (i * L .width) w) (encode L rs), length-take-le (i * L .width) w (omega arith), encode-length rs, length-drop ((i + length rs) * L .width) w)
-    where
-      product-sum : (a b k : ℕ) → (a + b) * k ≡ a * k + b * k
-      product-sum a b zero = omega arith
-      product-sum a b (suc k) = omega (arith, product-sum a b k, native.Mathlib.Nat.mul-suc (a + b) k, native.Mathlib.Nat.mul-suc a k, native.Mathlib.Nat.mul-suc b k)
 
   pub write-none : (w : List ℕ) (i : ℕ) → write L w i [] ≡ w
   unfolding write encode

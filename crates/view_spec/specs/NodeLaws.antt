@@ -13,8 +13,14 @@ use Rattle.term_spec.specs.ListLaws.{part-length, part-kept}
 use Rattle.term_spec.specs.Table.{table}
 use Rattle.term_spec.specs.TableLaws.{table-append, table-length, table-at, table-kept}
 use Rattle.term_spec.specs.Term.{limit}
-use Rattle.view_spec.specs.Node.{Node, Field, nilNode, nodeAt, reachOf, heightOf, consNode, concatNode, nilRule, consRule, concatRule, nodeRuleK, nodeRule, eachNode, nodesRule, fieldRule, meaningK, meaningOf, meanings, meaning, holds}
+use Rattle.term_spec.specs.WordsLaws.{Lays}
+use Rattle.view_spec.specs.Node.{nodeOf, nodeLayout, Node, Field, nilNode, nodeAt, reachOf, heightOf, consNode, concatNode, nilRule, consRule, concatRule, nodeRuleK, nodeRule, eachNode, nodesRule, fieldRule, meaningK, meaningOf, meanings, meaning, holds}
 use Rattle.view_spec.specs.Build.{makeCons, makeConcat}
+
+-- A node's words are as many as its width, and mean the node.
+pub node-lays : Lays nodeLayout
+unfolding nodeOf
+node-lays = record { some-words = omega arith; sized = λ r. refl; reads = λ r. refl }
 
 -- ---- the rules as facts. A node's number is i, and its children are looked up in ns. ----
 

@@ -5,7 +5,7 @@ use lib.Dec.{eqb}
 use lib.ListN.{length, take}
 use Prim.Native.Nat.{ℕ}
 use Rattle.term_spec.specs.Term.{Term, Run, noRun}
-use Rattle.term_spec.specs.Value.{Value, forms, sames?}
+use Rattle.term_spec.specs.Value.{Value, forms, sames?, isYes}
 use Rattle.view_spec.specs.Node.{Node, Field, nodeAt, holds}
 
 -- Where a field's terms stand in one run: in the store, or nowhere yet.
@@ -40,11 +40,6 @@ settledAt scattered used f = record { start = used; len = f .len }
 -- The run that settling gives.
 abbrev pub settledRun : List Term → List Node → Field → Run
 settledRun ts ns f = settledAt (place ns f) (length ts) f
-
--- A decision, as a test.
-unfoldable pub isYes : {P : Type 0} → Dec P → Bool
-isYes (yes h) = true
-isYes (no h) = false
 
 -- Whether two lists of terms are equal, and whether the first starts with the second.
 unfoldable pub equalTerms : List Value → List Value → Bool

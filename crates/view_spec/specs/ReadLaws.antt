@@ -12,9 +12,9 @@ use Rattle.term_spec.specs.BoolLaws.{both-of, true-T}
 use Rattle.term_spec.specs.ListLaws.{take-left}
 use Rattle.term_spec.specs.TermLaws.{facts-run}
 use Rattle.term_spec.specs.Term.{Run, noRun, part, runRule, limit}
-use Rattle.term_spec.specs.Value.{Value, canon, forms, sames?}
+use Rattle.term_spec.specs.Value.{Value, canon, forms, sames?, isYes}
 use Rattle.view_spec.specs.Node.{Node, Field, nodeAt, nodesRule, fieldRule, meaning, holds}
-use Rattle.view_spec.specs.Read.{Place, stored, scattered, place, isYes, equalTerms, startsWith}
+use Rattle.view_spec.specs.Read.{Place, stored, scattered, place, equalTerms, startsWith}
 use Rattle.view_spec.specs.NodeLaws.{NodeAt, node-at, nil-first, nodes-there, meaning-nil, meaning-cons, reach-is, field-facts}
 
 -- ---- a place in the store shows the field's terms ----

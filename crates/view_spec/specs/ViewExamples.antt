@@ -7,13 +7,13 @@ use native.Mathlib.Decide.{ℕ-discrete, decLe, decLt}
 use Rattle.term_spec.specs.Text.{lower}
 use Rattle.term_spec.specs.Table.{table}
 use Rattle.term_spec.specs.Term.{Term, Run, noRun}
-use Rattle.term_spec.specs.Value.{Value, char, ident, num, fromList, bracketed, canon, canons, heads?, list?, same?, sames?}
+use Rattle.term_spec.specs.Value.{Value, char, ident, num, fromList, bracketed, canon, canons, heads?, list?, same?, sames?, isYes}
 use Rattle.view_spec.specs.Node.{Node, Field, emptyField, nilNode, meaningK, meaningOf, holds}
 use Rattle.view_spec.specs.Node.{nilRule, consRule, concatRule, nodeRuleK, nodeRule, eachNode, nodesRule, fieldRule}
 use Rattle.view_spec.specs.Build.{Built, ifDec, fuseHead, fuseOnto, fuse, chainHead, chain, total, fromRuns}
 use Rattle.view_spec.specs.Build.{unclampK, unclampOf, unclamp, secondK, planK, planOf, plan, grow, joinBy, join}
 use Rattle.view_spec.specs.Build.{dropK, dropOf, dropPlan, dropMakes, dropNode, shrink, takeField, rest, range}
-use Rattle.view_spec.specs.Read.{Place, stored, scattered, place, copyAt, copy, settledAt, settledRun, isYes, equalTerms, startsWith}
+use Rattle.view_spec.specs.Read.{Place, stored, scattered, place, copyAt, copy, settledAt, settledRun, equalTerms, startsWith}
 use Rattle.view_spec.specs.RustJoin.{rustConcat, rustOuter, rustDouble, rustSingle, rustTurn, rustJoin}
 use Rattle.view_spec.specs.RustDrop.{rustUnder, rustMatch, rustDrop}
 

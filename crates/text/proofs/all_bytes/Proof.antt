@@ -1,0 +1,66 @@
+-- `all_bytes` is the test of every byte. The loop's invariant: the answer on the whole text is the answer on what is left of it.
+use borrow.Author.Tests.{not-true, not-false}
+use native.Mathlib.Omega.{arith}
+use mathlib.Core.Path.{_≡_, sym, ap, _∙_}
+use Prim.Native.Nat.{_≤_, _-_}
+use Rattle.term_spec.specs.Text.{textAt}
+use Rattle.text.specs.Texts.{spelled}
+use Rattle.text.specs.TextLaws.{left, left-all, spelled-more, spelled-none}
+use borrow.Author.Needs.{needs}
+use Rattle.text.proofs.all_bytes.Statement.{statement}
+use Rattle.text.proofs.all_bytes.Tie as tie
+
+abbrev Inv-loop : tie.InvT-loop
+Inv-loop names digits o n i₀ i = (i ≤ n) × (spelled digits (textAt names o n) ≡ spelled digits (left names o n i))
+
+abbrev μ-loop : tie.MeasureT-loop
+μ-loop names digits o n i₀ i = n - i
+
+loop-holds : tie.Need-loop-holds Inv-loop μ-loop
+loop-holds c = (omega arith, ap (spelled _) (left-all _ _ _))
+
+add-c : tie.Need-add-c Inv-loop μ-loop
+add-c c = omega arith
+
+shared-slice-read-c : tie.Need-shared-slice-read-c Inv-loop μ-loop
+shared-slice-read-c c = omega arith
+
+fits-byte-requires : tie.Need-fits-byte-requires Inv-loop μ-loop
+fits-byte-requires c κs = search needs
+
+returns : tie.Need-returns Inv-loop μ-loop
+returns c =
+    let t = c .before .before .before in
+    let e = sym (c .before .fits-byte .ensures) ∙ not-true _ (c .if1 .taken) in
+    sym (t .before .loop .inv .1 ∙ spelled-more _ _ _ _ _ (t .loop-test .taken) (t .before .before .before .pre) e)
+
+add-i : tie.Need-add-i Inv-loop μ-loop
+add-i c = omega arith
+
+loop-less : tie.Need-loop-less Inv-loop μ-loop
+loop-less c = omega arith
+
+loop-again : tie.Need-loop-again Inv-loop μ-loop
+loop-again c =
+    let t = c .before .before .before in
+    let e = sym (c .before .fits-byte .ensures) ∙ not-false _ (c .if1 .left) in
+    (omega arith, t .before .loop .inv .1 ∙ spelled-more _ _ _ _ _ (t .loop-test .taken) (t .before .before .before .pre) e)
+
+returns-2 : tie.Need-returns-2 Inv-loop μ-loop
+returns-2 c = sym (c .before .loop .inv .1 ∙ spelled-none _ _ _ _ _ (c .loop-test .left))
+
+pub all-bytes-spec : {M : Type 1} → statement M
+all-bytes-spec =
+    tie.close
+    (tie.spec
+    Inv-loop
+    μ-loop
+    loop-holds
+    add-c
+    shared-slice-read-c
+    fits-byte-requires
+    returns
+    add-i
+    loop-less
+    loop-again
+    returns-2)

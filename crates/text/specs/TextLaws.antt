@@ -1,0 +1,161 @@
+-- Laws of texts: a part of the names byte by byte, what it spells, and when two parts are the same.
+use mathlib.Core.Path.{_≡_, refl, ap, ap₂, sym, _∙_}
+use mathlib.Core.List.{List, [], _∷_, map}
+use mathlib.Core.Bool.{Bool, true, false, _&&_}
+use borrow.Author.Tests.{le-leb, lt-leb}
+use lib.Dec.{leb}
+use lib.ListN.{length, take, getD, length-map}
+use lib.Seq.{drop-cons}
+use Prim.Native.Nat.{ℕ, suc, zero, _+_, _-_, _<_, _≤_}
+use native.Mathlib.Nat.{add-zero, sub-zero}
+use native.Mathlib.Numerals.{add-one}
+use native.Mathlib.Omega.{arith}
+use Rattle.term_spec.specs.Text.{isLetter, every, identifierText, numberText, variableText, textAt, textRule, lower}
+use Rattle.term_spec.specs.Value.{ident, num, canon, isYes}
+use Rattle.term_spec.specs.ListLaws.{part-length}
+use Rattle.text.specs.Texts.{byteTest, spelled, spelling, folded, textsEqual, identifiersEqual, numbersEqual}
+
+-- ---- a text byte by byte ----
+
+-- A text's first byte, and the rest.
+text-first : (names : List ℕ) (o n : ℕ) → 1 ≤ n → o + n ≤ length names → textAt names o n ≡ getD names o 0 ∷ textAt names (o + 1) (n - 1)
+text-first names o n h w =
+    let t : o < length names = omega arith in
+    let e : n ≡ suc (n - 1) = omega arith in
+    ap₂ take e (drop-cons names o 0 t) ∙ rw add-one refl
+
+-- What is left of a text when i of its bytes are passed: at first all, then a byte and the rest, at the end none.
+unfoldable pub left : List ℕ → ℕ → ℕ → ℕ → List ℕ
+left names o n i = textAt names (o + i) (n - i)
+
+pub left-all : (names : List ℕ) (o n : ℕ) → textAt names o n ≡ left names o n 0
+unfolding left
+left-all names o n = rw (add-zero, sub-zero)
+
+left-more : (names : List ℕ) (o n i : ℕ) → i < n → o + n ≤ length names → left names o n i ≡ getD names (o + i) 0 ∷ left names o n (i + 1)
+unfolding left
+left-more names o n i h w =
+    let e : o + i + 1 ≡ o + (i + 1) = omega arith in
+    let f : n - i - 1 ≡ n - (i + 1) = omega arith in
+    text-first names (o + i) (n - i) (omega arith) (omega arith) ∙ rw (e, f)
+
+left-none : (names : List ℕ) (o n i : ℕ) → n ≤ i → left names o n i ≡ []
+unfolding left
+left-none names o n i h = let e : n - i ≡ 0 = omega arith in rw e
+
+-- ---- what a text spells ----
+
+pub spelled-more :
+    (digits : Bool) (names : List ℕ) (o n i : ℕ) {b : Bool} → i < n → o + n ≤ length names → byteTest digits (getD names (o + i) 0) ≡ b
+    → spelled digits (left names o n i) ≡ b && spelled digits (left names o n (i + 1))
+unfolding spelled every
+spelled-more digits names o n i h w e = rw (left-more names o n i, every, e)
+
+pub spelled-none : (digits : Bool) (names : List ℕ) (o n i : ℕ) → n ≤ i → spelled digits (left names o n i) ≡ true
+unfolding spelled every
+spelled-none digits names o n i h = rw (left-none names o n i)
+
+-- each kind of text
+pub spelling-identifier :
+    (names : List ℕ) (o n : ℕ) {b : Bool} → 1 ≤ n → o + n ≤ length names → isLetter (getD names o 0) ≡ b
+    → spelling 1 (textAt names o n) ≡ b && spelled false (textAt names (o + 1) (n - 1))
+unfolding spelling identifierText spelled byteTest
+spelling-identifier names o n h w e = rw (text-first names o n, identifierText, e)
+
+pub spelling-number : (l : List ℕ) → spelling 2 l ≡ spelled true l
+unfolding spelling numberText spelled byteTest
+spelling-number l = refl
+
+pub spelling-variable : (kind : ℕ) (l : List ℕ) → (kind ≡ 1 → ⊥) → (kind ≡ 2 → ⊥) → spelling kind l ≡ spelled false l
+unfolding spelling variableText spelled byteTest
+spelling-variable zero l h k = refl
+spelling-variable (suc zero) l h k = absurd (h refl)
+spelling-variable (suc (suc zero)) l h k = absurd (k refl)
+spelling-variable (suc (suc (suc j))) l h k = refl
+
+-- The rule of a text of a size within the bounds: out of the names, and within.
+module _ (test : List ℕ → Bool) (names : List ℕ) (o n : ℕ) (h : 1 ≤ n) (k : n ≤ 255) where
+  pub rule-out : length names < o + n → textRule test names o n ≡ false
+  unfolding textRule
+  rule-out w = simp (le-leb 1 n h, le-leb n 255 k, lt-leb _ _ w)
+
+  pub rule-in : o + n ≤ length names → textRule test names o n ≡ test (textAt names o n)
+  unfolding textRule
+  rule-in w = simp (le-leb 1 n h, le-leb n 255 k, le-leb _ _ w)
+
+-- ---- a byte as it is compared ----
+
+lower-by : (c : ℕ) (capital : Bool) → leb 65 c && leb c 90 ≡ capital → lower c ≡ elim capital as (λ x. ℕ) [ true ↦ c + 32 | false ↦ c ]
+unfolding lower
+lower-by c capital e = ap (λ b. elim b as (λ x. ℕ) [ true ↦ c + 32 | false ↦ c ]) e
+
+-- Before `A`, after `Z` and between them.
+pub lower-small : (c : ℕ) → c < 65 → lower c ≡ c
+lower-small c h = lower-by c false (simp (lt-leb 65 c h))
+
+pub lower-large : (c : ℕ) → 90 < c → lower c ≡ c
+lower-large c h = lower-by c false (simp (le-leb 65 c (omega arith), lt-leb c 90 h))
+
+pub lower-capital : (c : ℕ) → 65 ≤ c → c ≤ 90 → lower c ≡ c + 32
+lower-capital c h k = lower-by c true (simp (le-leb 65 c h, le-leb c 90 k))
+
+-- ---- when two texts are the same ----
+
+-- A decision as a test: true, false, or that of another, from the facts.
+is-yes : {P : Type 0} (d : Dec P) → P → isYes d ≡ true
+unfolding isYes
+is-yes (yes p) h = refl
+is-yes (no n) h = absurd (n h)
+
+is-no : {P : Type 0} (d : Dec P) → (P → ⊥) → isYes d ≡ false
+unfolding isYes
+is-no (yes p) h = absurd (h p)
+is-no (no n) h = refl
+
+alike : {P Q : Type 0} (d : Dec P) (e : Dec Q) → (P → Q) → (Q → P) → isYes d ≡ isYes e
+unfolding isYes
+alike (yes p) e f g = sym (is-yes e (f p))
+alike (no n) e f g = sym (is-no e (λ q. n (g q)))
+
+-- What is left of two texts, where the next bytes compare the same, where they do not, and at the end.
+module _ (fold : Bool) (names : List ℕ) (o p n i : ℕ) where
+  module _ (h : i < n) (v : o + n ≤ length names) (w : p + n ≤ length names) where
+    pub same-more :
+        folded fold (getD names (o + i) 0) ≡ folded fold (getD names (p + i) 0)
+        → textsEqual fold (left names o n i) (left names p n i) ≡ textsEqual fold (left names o n (i + 1)) (left names p n (i + 1))
+    unfolding textsEqual
+    same-more e = rw (left-more names o n i, left-more names p n i) (alike _ _ (λ q. cc) (λ q. cc))
+
+    pub same-stop :
+        (folded fold (getD names (o + i) 0) ≡ folded fold (getD names (p + i) 0) → ⊥)
+        → textsEqual fold (left names o n i) (left names p n i) ≡ false
+    unfolding textsEqual
+    same-stop k = rw (left-more names o n i, left-more names p n i) (is-no _ (λ q. k (cc)))
+
+  pub same-none : n ≤ i → textsEqual fold (left names o n i) (left names p n i) ≡ true
+  unfolding textsEqual
+  same-none h = rw (left-none names o n i, left-none names p n i) (is-yes _ refl)
+
+-- Texts of different lengths are not the same.
+pub same-lengths :
+    (fold : Bool) (names : List ℕ) (o n p m : ℕ) → o + n ≤ length names → p + m ≤ length names → (n ≡ m → ⊥)
+    → textsEqual fold (textAt names o n) (textAt names p m) ≡ false
+unfolding textsEqual
+same-lengths fold names o n p m v w h = is-no _ (λ q. h (sym (long o n v) ∙ ap length q ∙ long p m w))
+  where
+    long : (o n : ℕ) → o + n ≤ length names → length (map (folded fold) (textAt names o n)) ≡ n
+    long o n v = length-map (textAt names o n) (folded fold) ∙ part-length names o n v
+
+-- Equality of identifiers and of numbers, as values, is that of their texts, with and without folding.
+pub identifiers : (x y : List ℕ) → identifiersEqual x y ≡ textsEqual true x y
+unfolding identifiersEqual textsEqual canon folded
+identifiers x y = alike _ _ (λ q. cc) (λ q. ap ident q)
+
+unfolded : (x : List ℕ) → map (folded false) x ≡ x
+unfolding folded
+unfolded [] = refl
+unfolded (c ∷ x) = ap (c ∷_) (unfolded x)
+
+pub numbers : (x y : List ℕ) → numbersEqual x y ≡ textsEqual false x y
+unfolding numbersEqual textsEqual canon
+numbers x y = rw (unfolded x, unfolded y) (alike _ _ (λ q. cc) (λ q. ap num q))

@@ -1,0 +1,180 @@
+-- Laws of a store's rules, one for each exit of the code that decides them: the rule as what the tests on the way say of it.
+use mathlib.Core.Path.{_≡_, refl, ap, ap₂, sym, _∙_}
+use mathlib.Core.List.{List, [], _∷_, _++_}
+use mathlib.Core.Bool.{Bool, true, false, _&&_}
+use borrow.Author.Tests.{le-leb, lt-leb, eq-eqb, ne-eqb}
+use lib.Dec.{leb, eqb}
+use lib.ListN.{length, drop}
+use lib.Seq.{drop-cons, drop-length}
+use Prim.Native.Nat.{ℕ, suc, zero, _+_, _*_, _/_, _%_, _<_, _≤_, max, min}
+use native.Mathlib.Numerals.{add-one}
+use native.Mathlib.Omega.{arith}
+use Rattle.term_spec.specs.Words.{decode, recordAt, count, whole}
+use Rattle.term_spec.specs.WordsLaws.{decode-at, decode-length, decode-part, decode-snoc, record-drop}
+use Rattle.term_spec.specs.Text.{textRule}
+use Rattle.term_spec.specs.Term.{Term, noTerm, termLayout, isScalar, depthK, deepest, bracketRule, symbolRule, termRuleK, termRule, termsRule}
+use Rattle.text.specs.Texts.{spelling}
+use Rattle.value.specs.Check.{runOf, unless, termsCounts, termsNumber}
+
+-- ---- depth ----
+
+pub depth-bracket : (k : ℕ) (t : Term) → k ≡ 3 → t .c ≡ depthK k t
+unfolding depthK
+depth-bracket k t e = rw e refl
+
+pub depth-other : (k : ℕ) (t : Term) → (k ≡ 3 → ⊥) → 0 ≡ depthK k t
+unfolding depthK
+depth-other zero t h = refl
+depth-other (suc zero) t h = refl
+depth-other (suc (suc zero)) t h = refl
+depth-other (suc (suc (suc zero))) t h = absurd (h refl)
+depth-other (suc (suc (suc (suc k)))) t h = refl
+
+pub deepest-none : (w : List ℕ) (s : ℕ) → 0 ≡ deepest (runOf w s 0)
+unfolding deepest runOf decode
+deepest-none w s = refl
+
+deepest-snoc : (ts : List Term) (t : Term) → deepest (ts ++ (t ∷ [])) ≡ max (deepest ts) (depthK (t .kind) t)
+unfolding deepest
+deepest-snoc [] t = omega arith
+deepest-snoc (u ∷ ts) t = omega (arith, deepest-snoc ts t)
+
+-- a run with one term more, and its deepest bracket
+run-snoc : (w : List ℕ) (s i : ℕ) → runOf w s (suc i) ≡ runOf w s i ++ (recordAt termLayout w (s + i) ∷ [])
+unfolding runOf
+run-snoc w s i = decode-snoc termLayout i (drop (s * 4) w) ∙ ap (λ t. decode termLayout i (drop (s * 4) w) ++ (t ∷ [])) (record-drop termLayout s i w)
+
+pub deepest-more : (w : List ℕ) (s i : ℕ) (t : Term) {deep d more : ℕ} → deep ≡ deepest (runOf w s i) → t ≡ recordAt termLayout w (s + i) → d ≡ depthK (t .kind) t
+    → more ≡ max deep d → more ≡ deepest (runOf w s (i + 1))
+deepest-more w s i t p q r m = m ∙ ap₂ max p r ∙ rw (add-one, run-snoc, ← q) (sym (deepest-snoc (runOf w s i) t))
+
+-- ---- a bracket ----
+
+module _ (w : List ℕ) (i : ℕ) (t : Term) where
+  pub bracket-out : i < t .a + t .b → false ≡ bracketRule (decode termLayout i w) t
+  unfolding bracketRule
+  bracket-out h = simp (decode-length, lt-leb _ _ h)
+
+  -- contents below it, of depth d: its own depth decides
+  module _ (h : t .a + t .b ≤ i) {d : ℕ} (e : d ≡ deepest (runOf w (t .a) (t .b))) where
+    bracket-within : {b : Bool} → eqb (t .c) (suc d) ≡ b → bracketRule (decode termLayout i w) t ≡ b && leb (t .c) 255
+    unfolding bracketRule runOf
+    bracket-within q = rw (decode-length, le-leb (t .a + t .b) i h, decode-part termLayout i (t .a) (t .b) w h, ← e, q) refl
+
+    pub bracket-wrong : (t .c ≡ suc d → ⊥) → false ≡ bracketRule (decode termLayout i w) t
+    bracket-wrong n = sym (bracket-within (ne-eqb _ _ n))
+
+    pub bracket-exact : t .c ≡ suc d → leb (t .c) 255 ≡ bracketRule (decode termLayout i w) t
+    bracket-exact n = sym (bracket-within (eq-eqb _ _ n))
+
+-- ---- a symbol and a term, by kind ----
+
+module _ (names : List ℕ) where
+  pub symbol-char : (k a b c : ℕ) → k ≡ 0 → {s z : Bool} → isScalar a ≡ s → eqb b 0 ≡ z → symbolRule k names a b c ≡ s && z && eqb c 0
+  unfolding symbolRule
+  symbol-char k a b c e p q = rw (e, p, q) refl
+
+  texts : (k a b c : ℕ) → (k ≡ 0 → ⊥) → k ≤ 2 → symbolRule k names a b c ≡ textRule (spelling k) names a b && eqb c 0
+  unfolding symbolRule textRule spelling
+  texts zero a b c n h = absurd (n refl)
+  texts (suc zero) a b c n h = refl
+  texts (suc (suc zero)) a b c n h = refl
+  texts (suc (suc (suc k))) a b c n h = absurd (omega arith)
+
+  pub symbol-text : (k a b c : ℕ) → (k ≡ 0 → ⊥) → k ≤ 2 → {s : Bool} → textRule (spelling k) names a b ≡ s → symbolRule k names a b c ≡ s && eqb c 0
+  symbol-text k a b c n h e = texts k a b c n h ∙ ap (_&& eqb c 0) e
+
+  pub symbol-none : (k a b c : ℕ) → 2 < k → symbolRule k names a b c ≡ false
+  unfolding symbolRule
+  symbol-none zero a b c h = absurd (omega arith)
+  symbol-none (suc zero) a b c h = absurd (omega arith)
+  symbol-none (suc (suc zero)) a b c h = absurd (omega arith)
+  symbol-none (suc (suc (suc k))) a b c h = refl
+
+module _ (names : List ℕ) (below : List Term) where
+  symbols : (k : ℕ) (t : Term) → k < 3 → termRuleK k names below t ≡ symbolRule k names (t .a) (t .b) (t .c)
+  unfolding termRuleK
+  symbols zero t h = refl
+  symbols (suc zero) t h = refl
+  symbols (suc (suc zero)) t h = refl
+  symbols (suc (suc (suc k))) t h = absurd (omega arith)
+
+  others : (k : ℕ) (t : Term) → 4 < k → termRuleK k names below t ≡ false
+  unfolding termRuleK
+  others zero t h = absurd (omega arith)
+  others (suc zero) t h = absurd (omega arith)
+  others (suc (suc zero)) t h = absurd (omega arith)
+  others (suc (suc (suc zero))) t h = absurd (omega arith)
+  others (suc (suc (suc (suc zero)))) t h = absurd (omega arith)
+  others (suc (suc (suc (suc (suc k))))) t h = refl
+
+  pub term-symbol : (t : Term) → t .kind < 3 → symbolRule (t .kind) names (t .a) (t .b) (t .c) ≡ termRule names below t
+  unfolding termRule
+  term-symbol t h = sym (symbols (t .kind) t h)
+
+  pub term-bracket : (t : Term) → t .kind ≡ 3 → bracketRule below t ≡ termRule names below t
+  unfolding termRule termRuleK
+  term-bracket t e = rw e refl
+
+  pub term-unknown : (t : Term) → t .kind ≡ 4 → leb (t .a) 2 ≡ termRule names below t
+  unfolding termRule termRuleK
+  term-unknown t e = rw e refl
+
+  pub term-none : (t : Term) → 4 < t .kind → false ≡ termRule names below t
+  unfolding termRule
+  term-none t h = sym (others (t .kind) t h)
+
+-- ---- the terms of a store, from term i on ----
+
+-- The rule of the terms from i on, those below them passed.
+unfoldable pub restRule : List ℕ → List ℕ → ℕ → ℕ → Bool
+restRule names w used i = termsRule names (decode termLayout i w) (drop i (decode termLayout used w))
+
+module _ (names w : List ℕ) (used : ℕ) where
+  pub rest-all : termsRule names [] (decode termLayout used w) ≡ restRule names w used 0
+  unfolding restRule decode
+  rest-all = refl
+
+  pub rest-more : (i : ℕ) {b : Bool} → i < used → termRule names (decode termLayout i w) (recordAt termLayout w i) ≡ b
+      → restRule names w used i ≡ b && restRule names w used (i + 1)
+  unfolding restRule termsRule
+  rest-more i h e =
+      let ts = decode termLayout used w in
+      let d : drop i ts ≡ recordAt termLayout w i ∷ drop (suc i) ts =
+      drop-cons ts i noTerm (omega (arith, decode-length termLayout used w)) ∙ ap (_∷ drop (suc i) ts) (decode-at termLayout used i w noTerm h) in
+      rw (add-one, d, termsRule, e, ← decode-snoc termLayout i w) refl
+
+  pub rest-none : restRule names w used used ≡ true
+  unfolding restRule termsRule
+  rest-none =
+      let ts = decode termLayout used w in
+      let e : length ts ≡ used = decode-length termLayout used w in
+      ap (termsRule names ts) (ap (λ n. drop n ts) (sym e) ∙ drop-length ts)
+
+-- ---- a store's number ----
+
+module _ (names w : List ℕ) (used : ℕ) where
+  number-uneven : termsCounts names w used ≡ false → 1 ≡ termsNumber names w used
+  unfolding termsNumber unless
+  number-uneven e = rw e refl
+
+  pub number-whole : (length w % 4 ≡ 0 → ⊥) → 1 ≡ termsNumber names w used
+  unfolding termsCounts whole
+  number-whole n = number-uneven (simp (ne-eqb _ _ n))
+
+  pub number-names : length w % 4 ≡ 0 → 65536 < length names → 1 ≡ termsNumber names w used
+  unfolding termsCounts whole
+  number-names e n = number-uneven (simp (eq-eqb _ _ e, lt-leb _ _ n))
+
+  pub number-used : length w % 4 ≡ 0 → length names ≤ 65536 → min (length w / 4) 65536 < used → 1 ≡ termsNumber names w used
+  unfolding termsCounts whole count
+  number-used e m n = number-uneven (simp (eq-eqb _ _ e, le-leb _ _ m, lt-leb _ _ n))
+
+  counts : length w % 4 ≡ 0 → length names ≤ 65536 → used ≤ min (length w / 4) 65536 → termsCounts names w used ≡ true
+  unfolding termsCounts whole count
+  counts e m n = simp (eq-eqb _ _ e, le-leb _ _ m, le-leb _ _ n)
+
+  pub number-terms : length w % 4 ≡ 0 → length names ≤ 65536 → used ≤ min (length w / 4) 65536 → {b : Bool} → b ≡ termsRule names [] (decode termLayout used w)
+      → unless b 2 0 ≡ termsNumber names w used
+  unfolding termsNumber unless
+  number-terms e m n q = rw (counts e m n, q) refl

@@ -1,0 +1,335 @@
+-- Laws of equality: what a store within its rules gives, and what equality of two terms or two runs comes to at each exit of the code.
+use mathlib.Core.Path.{_≡_, refl, ap, ap₂, sym, _∙_}
+use mathlib.Core.List.{List, [], _∷_}
+use mathlib.Core.Bool.{Bool, true, false, _&&_, _||_}
+use borrow.Author.Tests.{eq-eqb, ne-eqb, le-leb, lt-leb}
+use lib.Dec.{T, leb, eqb, leb→le, eqb→eq, eqb·suc-zero}
+use lib.ListN.{length, getD, take, drop, length-map}
+use lib.Seq.{drop-cons, getD-take, getD-drop}
+use Prim.Native.Nat.{ℕ, suc, zero, _+_, _-_, _*_, _<_, _≤_, min, max}
+use native.Mathlib.Nat.{add-zero, sub-zero}
+use native.Mathlib.Numerals.{add-one}
+use native.Mathlib.Omega.{arith}
+use Rattle.term_spec.specs.BoolLaws.{both-of, and-of, eq→eqb, T-true}
+use Rattle.term_spec.specs.ListLaws.{part-below, part-length}
+use Rattle.term_spec.specs.Words.{decode, recordAt, count, whole}
+use Rattle.term_spec.specs.WordsLaws.{term-lays, count-fits, decode-length, decode-at, decode-below}
+use Rattle.term_spec.specs.Text.{identifierText, numberText, textAt, textRule}
+use Rattle.term_spec.specs.Term.{Term, termLayout, noTerm, part, contentsRun, depthK, deepest, limit, symbolRule, termRuleK, termRule, termsRule}
+use Rattle.term_spec.specs.TermLaws.{BracketFacts, bracket-of, term-at, values-length}
+use Rattle.term_spec.specs.TableLaws.{table-at}
+use Rattle.term_spec.specs.Value.{Value, char, unknown, bracketed, valueK, valueOf, values, canon, forms, column, unknownColumn, heads?, list?, same?, sames?, isYes}
+use Rattle.term_spec.specs.ValueLaws.{canon-bracketed, equal-brackets, equal-columns, is-yes, is-no, alike}
+use Rattle.text.specs.Texts.{identifiersEqual, numbersEqual}
+use Rattle.value.specs.Check.{unless, termsCounts, termsNumber}
+use Rattle.value.specs.CheckLaws.{depth-bracket}
+use Rattle.value.specs.Equal.{Store, InNames, Texts, equalSymbols, valuesIn, equalAt, equalRuns, decidedBy, comparedRuns}
+
+-- ---- kinds ----
+
+unknown-above : (a : ℕ) → 4 ≤ unknownColumn a
+unfolding unknownColumn
+unknown-above zero = omega arith
+unknown-above (suc zero) = omega arith
+unknown-above (suc (suc zero)) = omega arith
+unknown-above (suc (suc (suc a))) = omega arith
+
+-- A kind shows in its value: its column, those from 4 on being of unknowns.
+kind-column : (k : ℕ) (text : List ℕ) (t : Term) (below : List Value) → min k 4 ≡ min (column (valueK k text t below)) 4
+unfolding valueK column bracketed
+kind-column zero text t below = refl
+kind-column (suc zero) text t below = refl
+kind-column (suc (suc zero)) text t below = refl
+kind-column (suc (suc (suc zero))) text t below = refl
+kind-column (suc (suc (suc (suc k)))) text t below = omega (arith, unknown-above (t .a))
+
+-- Values of different kinds are never equal.
+values-differ : (names : List ℕ) (t u : Term) (x y : List Value) → (min (t .kind) 4 ≡ min (u .kind) 4 → ⊥)
+    → isYes (same? (canon (valueOf names t x)) (canon (valueOf names u y))) ≡ false
+unfolding valueOf
+values-differ names t u x y h =
+    is-no _ (λ q. h (kind-column (t .kind) _ t x ∙ ap (λ z. min z 4) (equal-columns _ _ q) ∙ sym (kind-column (u .kind) _ u y)))
+
+-- ---- symbols ----
+
+decides : {P : Type 0} (d : Dec P) (b : Bool) → (P → T b) → (T b → P) → isYes d ≡ b
+decides d true f g = is-yes d (g tt)
+decides d false f g = is-no d f
+
+unknowns : {a b c x y z : ℕ} → a ≡ x → b ≡ y → c ≡ z → unknown a b c ≡ unknown x y z
+unknowns p q r i = unknown (p i) (q i) (r i)
+
+text-lies : (k : ℕ) (names : List ℕ) (t : Term) → 1 ≤ k → k ≤ 2 → InNames k names t → t .a + t .b ≤ length names
+unfolding InNames
+text-lies zero names t l h i = absurd (omega arith)
+text-lies (suc zero) names t l h i = i
+text-lies (suc (suc zero)) names t l h i = i
+text-lies (suc (suc (suc k))) names t l h i = absurd (omega arith)
+
+module _ (names : List ℕ) (t u : Term) where
+  pub texts-lie : Texts names t u → t .kind ≡ u .kind → 1 ≤ t .kind → t .kind ≤ 2 → (t .a + t .b ≤ length names) × (u .a + u .b ≤ length names)
+  texts-lie x e l h = (text-lies (t .kind) names t l h (x .left), text-lies (u .kind) names u (omega arith) (omega arith) (x .right))
+
+  pub symbols-differ : t .kind < 3 → (t .kind ≡ u .kind → ⊥) → false ≡ equalSymbols names t u
+  unfolding equalSymbols
+  symbols-differ h n = sym (values-differ names t u [] [] (λ q. n (omega arith)))
+
+  pub symbols-identifiers : t .kind ≡ 1 → t .kind ≡ u .kind → identifiersEqual (textAt names (t .a) (t .b)) (textAt names (u .a) (u .b)) ≡ equalSymbols names t u
+  unfolding equalSymbols identifiersEqual valueOf valueK
+  symbols-identifiers e f = rw (← f, e)
+
+  pub symbols-numbers : t .kind ≡ 2 → t .kind ≡ u .kind → numbersEqual (textAt names (t .a) (t .b)) (textAt names (u .a) (u .b)) ≡ equalSymbols names t u
+  unfolding equalSymbols numbersEqual valueOf valueK
+  symbols-numbers e f = rw (← f, e)
+
+  -- Chars and unknowns: by value; by kind, level and index.
+  module _ (same : t .kind ≡ u .kind) (n₁ : t .kind ≡ 1 → ⊥) (n₂ : t .kind ≡ 2 → ⊥) (n₃ : t .kind ≡ 3 → ⊥) where
+    by-kind : (k : ℕ) → k ≡ t .kind
+        → isYes (same? (canon (valueK k (textAt names (t .a) (t .b)) t [])) (canon (valueK k (textAt names (u .a) (u .b)) u [])))
+        ≡ eqb (t .a) (u .a) && (eqb k 0 || eqb (t .b) (u .b) && eqb (t .c) (u .c))
+    unfolding valueK canon
+    by-kind zero e =
+        decides _ _ (λ q. and-of (eqb (t .a) (u .a)) true (eq→eqb (t .a) (u .a) (cc)) tt) (λ h. ap char (eqb→eq _ _ (both-of (eqb (t .a) (u .a)) true h .0)))
+    by-kind (suc zero) e = absurd (n₁ (sym e))
+    by-kind (suc (suc zero)) e = absurd (n₂ (sym e))
+    by-kind (suc (suc (suc zero))) e = absurd (n₃ (sym e))
+    by-kind (suc (suc (suc (suc k)))) e =
+        rw (eqb·suc-zero (suc (suc (suc k))))
+        (decides _ _
+        (λ q.
+        and-of (eqb (t .a) (u .a)) (eqb (t .b) (u .b) && eqb (t .c) (u .c)) (eq→eqb (t .a) (u .a) (cc))
+        (and-of (eqb (t .b) (u .b)) (eqb (t .c) (u .c)) (eq→eqb (t .b) (u .b) (cc)) (eq→eqb (t .c) (u .c) (cc))))
+        (λ h.
+        let (x, yz) = both-of (eqb (t .a) (u .a)) (eqb (t .b) (u .b) && eqb (t .c) (u .c)) h in
+        let (y, z) = both-of (eqb (t .b) (u .b)) (eqb (t .c) (u .c)) yz in
+        unknowns (eqb→eq _ _ x) (eqb→eq _ _ y) (eqb→eq _ _ z)))
+
+    symbols-other : equalSymbols names t u ≡ eqb (t .a) (u .a) && (eqb (t .kind) 0 || eqb (t .b) (u .b) && eqb (t .c) (u .c))
+    unfolding equalSymbols valueOf
+    symbols-other =
+        ap (λ k. isYes (same? (canon (valueOf names t [])) (canon (valueK k (textAt names (u .a) (u .b)) u [])))) (sym same)
+        ∙ by-kind (t .kind) refl
+
+    pub symbols-apart : (t .a ≡ u .a → ⊥) → false ≡ equalSymbols names t u
+    symbols-apart n = sym (symbols-other ∙ rw (ne-eqb (t .a) (u .a) n) refl)
+
+    pub symbols-chars : t .kind ≡ 0 → t .a ≡ u .a → true ≡ equalSymbols names t u
+    symbols-chars z e = sym (symbols-other ∙ rw (eq-eqb (t .a) (u .a) e, eq-eqb (t .kind) 0 z) refl)
+
+    module _ (n₀ : t .kind ≡ 0 → ⊥) (e : t .a ≡ u .a) where
+      pub symbols-levels : (t .b ≡ u .b → ⊥) → false ≡ equalSymbols names t u
+      symbols-levels n = sym (symbols-other ∙ rw (eq-eqb (t .a) (u .a) e, ne-eqb (t .kind) 0 n₀, ne-eqb (t .b) (u .b) n) refl)
+
+      pub symbols-indices : t .b ≡ u .b → eqb (t .c) (u .c) ≡ equalSymbols names t u
+      symbols-indices f = sym (symbols-other ∙ rw (eq-eqb (t .a) (u .a) e, ne-eqb (t .kind) 0 n₀, eq-eqb (t .b) (u .b) f) refl)
+
+-- Two lists with first entries: equal by these and the rest.
+heads-yes : {A : Type 0} {x y : A} {xs ys : List A} (d : Dec (x ≡ y)) (e : Dec (xs ≡ ys)) → isYes (heads? d e) ≡ isYes d && isYes e
+unfolding heads? isYes
+heads-yes (yes p) (yes q) = refl
+heads-yes (yes p) (no n) = refl
+heads-yes (no n) q = refl
+
+-- ---- a store within its rules ----
+
+-- What the rule of a term says by its kind: no kind past 4, a text in the names.
+kind-low : (k : ℕ) (names : List ℕ) (below : List Term) (t : Term) → T (termRuleK k names below t) → k ≤ 4
+unfolding termRuleK
+kind-low zero names below t h = omega arith
+kind-low (suc zero) names below t h = omega arith
+kind-low (suc (suc zero)) names below t h = omega arith
+kind-low (suc (suc (suc zero))) names below t h = omega arith
+kind-low (suc (suc (suc (suc zero)))) names below t h = omega arith
+kind-low (suc (suc (suc (suc (suc k))))) names below t h = absurd h
+
+text-in : (test : List ℕ → Bool) (names : List ℕ) (o n c : ℕ) → T (textRule test names o n && eqb c 0) → o + n ≤ length names
+unfolding textRule
+text-in test names o n c h =
+    let r = both-of (leb 1 n && leb n 255 && leb (o + n) (length names) && test (textAt names o n)) (eqb c 0) h .0 in
+    let l = both-of (leb 1 n && leb n 255 && leb (o + n) (length names)) (test (textAt names o n)) r .0 in
+    leb→le _ _ (both-of (leb 1 n && leb n 255) (leb (o + n) (length names)) l .1)
+
+in-names : (k : ℕ) (names : List ℕ) (below : List Term) (t : Term) → T (termRuleK k names below t) → InNames k names t
+unfolding termRuleK symbolRule InNames
+in-names zero names below t h = tt
+in-names (suc zero) names below t h = text-in identifierText names (t .a) (t .b) (t .c) h
+in-names (suc (suc zero)) names below t h = text-in numberText names (t .a) (t .b) (t .c) h
+in-names (suc (suc (suc k))) names below t h = tt
+
+depth-in : (ts : List Term) (k : ℕ) → k < length ts → depthK (getD ts k noTerm .kind) (getD ts k noTerm) ≤ deepest ts
+unfolding deepest
+depth-in [] k h = absurd (omega arith)
+depth-in (t ∷ ts) zero h = omega arith
+depth-in (t ∷ ts) (suc k) h = omega (arith, depth-in ts k (omega arith))
+
+-- A value that is no bracket's does not look below.
+value-alone : (k : ℕ) (text : List ℕ) (t : Term) (below : List Value) → (k ≡ 3 → ⊥) → valueK k text t below ≡ valueK k text t []
+unfolding valueK
+value-alone zero text t below h = refl
+value-alone (suc zero) text t below h = refl
+value-alone (suc (suc zero)) text t below h = refl
+value-alone (suc (suc (suc zero))) text t below h = absurd (h refl)
+value-alone (suc (suc (suc (suc k)))) text t below h = refl
+
+value-bracket : (k : ℕ) (text : List ℕ) (t : Term) (below : List Value) → k ≡ 3 → valueK k text t below ≡ bracketed (part below (contentsRun t))
+unfolding valueK
+value-bracket k text t below e = rw e
+
+-- A store that neither 1 nor 2 refuses.
+within-rules : (a b : Bool) → unless a 1 (unless b 2 0) ≡ 0 → T a × T b
+unfolding unless
+within-rules true true e = (tt, tt)
+within-rules true false e = absurd (omega arith)
+within-rules false b e = absurd (omega arith)
+
+-- The depth of term i, and the deepest of the n terms from s on: what falls with each call.
+unfoldable pub depthAt : List ℕ → ℕ → ℕ
+depthAt w i = depthK (recordAt termLayout w i .kind) (recordAt termLayout w i)
+
+unfoldable pub deepestIn : List ℕ → ℕ → ℕ → ℕ → ℕ
+deepestIn w used s n = deepest (part (decode termLayout used w) (record { start = s; len = n }))
+
+pub depth-inside : (w : List ℕ) (used s n k : ℕ) → k < n → s + n ≤ used → depthAt w (s + k) ≤ deepestIn w used s n
+unfolding depthAt deepestIn
+depth-inside w used s n k lt h =
+    let ts = decode termLayout used w in
+    let e : getD (take n (drop s ts)) k noTerm ≡ recordAt termLayout w (s + k)
+    = getD-take n (drop s ts) k noTerm lt ∙ getD-drop s ts k noTerm ∙ decode-at termLayout used (s + k) w noTerm (omega arith) in
+    rw e at (depth-in (take n (drop s ts)) k (omega (arith, part-length ts s n (omega (arith, decode-length termLayout used w)))))
+
+module _ (names w : List ℕ) (used : ℕ) where
+  values-size : length (valuesIn names w used) ≡ used
+  values-size = values-length names (decode termLayout used w) ∙ decode-length termLayout used w
+
+  value-at : (i : ℕ) (t : Term) → i < used → t ≡ recordAt termLayout w i
+      → getD (valuesIn names w used) i (char 0) ≡ valueOf names t (take i (valuesIn names w used))
+  unfolding values
+  value-at i t lt e =
+      table-at (valueOf names) (decode termLayout used w) [] i i noTerm (char 0) (omega (arith, decode-length termLayout used w)) (omega arith)
+      ∙ ap (λ z. valueOf names z (take i (valuesIn names w used))) (decode-at termLayout used i w noTerm lt ∙ sym e)
+
+  module _ (store : Store names w used) where
+    rule-at : (i : ℕ) (t : Term) → i < used → t ≡ recordAt termLayout w i → T (termRuleK (t .kind) names (decode termLayout i w) t)
+    unfolding termRule
+    rule-at i t lt e =
+        let r : T (termRule names (take i (decode termLayout used w)) (getD (decode termLayout used w) i noTerm))
+        = term-at names [] (decode termLayout used w) i (store .good) (omega (arith, decode-length termLayout used w)) in
+        rw (decode-below termLayout used i w (omega arith), decode-at termLayout used i w noTerm lt, ← e) at r
+
+    pub texts-at : (i j : ℕ) (t u : Term) → i < used → j < used → t ≡ recordAt termLayout w i → u ≡ recordAt termLayout w j → Texts names t u
+    texts-at i j t u x y e f = record { left = in-names (t .kind) names _ t (rule-at i t x e); right = in-names (u .kind) names _ u (rule-at j u y f) }
+
+    module _ (i : ℕ) (t : Term) (lt : i < used) (e : t ≡ recordAt termLayout w i) (b : t .kind ≡ 3) where
+      facts : BracketFacts (decode termLayout i w) t
+      facts = bracket-of (t .kind) names (decode termLayout i w) t b (rule-at i t lt e)
+
+      pub contents-below : t .a + t .b ≤ i
+      contents-below = omega (arith, facts .inside, decode-length termLayout i w)
+
+      pub contents-shallow : depthAt w i ≡ suc (deepestIn w used (t .a) (t .b))
+      unfolding depthAt deepestIn
+      contents-shallow =
+          let p : part (decode termLayout i w) (contentsRun t) ≡ part (decode termLayout used w) (contentsRun t)
+          = ap (λ z. part z (contentsRun t)) (sym (decode-below termLayout used i w (omega arith)))
+          ∙ part-below (decode termLayout used w) (t .a) (t .b) i contents-below in
+          rw (← e) (sym (depth-bracket (t .kind) t b) ∙ facts .depth ∙ ap (λ z. suc (deepest z)) p)
+
+      value-held : getD (valuesIn names w used) i (char 0) ≡ bracketed (part (valuesIn names w used) (contentsRun t))
+      unfolding valueOf
+      value-held =
+          value-at i t lt e
+          ∙ value-bracket (t .kind) _ t _ b
+          ∙ ap bracketed (part-below (valuesIn names w used) (t .a) (t .b) i contents-below)
+
+    -- ---- two terms of a store ----
+
+    module _ (i j : ℕ) (t u : Term) (x : i < used) (y : j < used) (e : t ≡ recordAt termLayout w i) (f : u ≡ recordAt termLayout w j) where
+      pub at-differ : (t .kind ≡ u .kind → ⊥) → false ≡ equalAt names w used i j
+      unfolding equalAt
+      at-differ n =
+          let p = kind-low (t .kind) names _ t (rule-at i t x e) in
+          let q = kind-low (u .kind) names _ u (rule-at j u y f) in
+          rw (value-at i t x e, value-at j u y f) (sym (values-differ names t u _ _ (λ z. n (omega arith))))
+
+      pub at-symbols : t .kind ≡ u .kind → (t .kind ≡ 3 → ⊥) → equalSymbols names t u ≡ equalAt names w used i j
+      unfolding equalAt equalSymbols valueOf
+      at-symbols s n =
+          rw (value-at i t x e, value-at j u y f)
+          (sym (ap₂ (λ v z. isYes (same? (canon v) (canon z))) (value-alone (t .kind) _ t _ n) (value-alone (u .kind) _ u _ (λ q. n (s ∙ q)))))
+
+      pub at-brackets : t .kind ≡ 3 → t .kind ≡ u .kind → equalRuns names w used (t .a) (t .b) (u .a) (u .b) ≡ equalAt names w used i j
+      unfolding equalAt equalRuns
+      at-brackets b s =
+          rw (value-held i t x e b, value-held j u y f (sym s ∙ b))
+          (alike _ _ (λ q. canon-bracketed _ ∙ ap bracketed q ∙ sym (canon-bracketed _)) (λ q. equal-brackets _ _ q))
+
+  -- ---- two runs of a store ----
+
+  run-size : (s n : ℕ) → s + n ≤ used → length (forms (part (valuesIn names w used) (record { start = s; len = n }))) ≡ n
+  run-size s n h = length-map (part (valuesIn names w used) (record { start = s; len = n })) canon ∙ part-length (valuesIn names w used) s n (omega (arith, values-size))
+
+  pub runs-lengths : (s n p m : ℕ) → s + n ≤ used → p + m ≤ used → (n ≡ m → ⊥) → false ≡ equalRuns names w used s n p m
+  unfolding equalRuns
+  runs-lengths s n p m h k d = sym (is-no _ (λ q. d (sym (run-size s n h) ∙ ap length q ∙ run-size p m k)))
+
+  pub runs-same : (s n p m : ℕ) → n ≡ m → s ≡ p → true ≡ equalRuns names w used s n p m
+  unfolding equalRuns
+  runs-same s n p m e f = rw (e, f) (sym (is-yes _ refl))
+
+  -- The runs without their first k terms: at first whole, then a term of each and the rest, at the end none.
+  unfoldable pub runsFrom : ℕ → ℕ → ℕ → ℕ → Bool
+  runsFrom s n p k = equalRuns names w used (s + k) (n - k) (p + k) (n - k)
+
+  pub runs-all : (s n p m : ℕ) → n ≡ m → equalRuns names w used s n p m ≡ runsFrom s n p 0
+  unfolding runsFrom
+  runs-all s n p m e = rw (add-zero s, add-zero p, sub-zero n, e)
+
+  first-of : (s n k : ℕ) → k < n → s + n ≤ used → forms (part (valuesIn names w used) (record { start = s + k; len = n - k }))
+      ≡ canon (getD (valuesIn names w used) (s + k) (char 0)) ∷ forms (part (valuesIn names w used) (record { start = s + (k + 1); len = n - (k + 1) }))
+  first-of s n k lt h =
+      let e : n - k ≡ suc (n - (k + 1)) = omega arith in
+      let f : suc (s + k) ≡ s + (k + 1) = omega arith in
+      let d : s + k < length (valuesIn names w used) = omega (arith, values-size) in
+      ap forms (ap₂ take e (drop-cons (valuesIn names w used) (s + k) (char 0) d))
+      ∙ ap (λ z. forms (getD (valuesIn names w used) (s + k) (char 0) ∷ take (n - (k + 1)) (drop z (valuesIn names w used)))) f
+
+  pub runs-more : (s n p k : ℕ) {b : Bool} → k < n → s + n ≤ used → p + n ≤ used → equalAt names w used (s + k) (p + k) ≡ b
+      → runsFrom s n p k ≡ b && runsFrom s n p (k + 1)
+  unfolding runsFrom equalRuns equalAt sames? list?
+  runs-more s n p k lt h q e = rw (first-of s n k lt h, first-of p n k lt q, ← e) (heads-yes _ _)
+
+  pub runs-none : (s n p k : ℕ) → n ≤ k → runsFrom s n p k ≡ true
+  unfolding runsFrom equalRuns
+  runs-none s n p k h = let e : n - k ≡ 0 = omega arith in rw e (is-yes _ refl)
+
+  -- ---- comparing two runs of any store ----
+
+  -- a store that no number refuses
+  pub store-of : {number : ℕ} → number ≡ termsNumber names w used → number ≡ 0 → Store names w used
+  unfolding termsNumber termsCounts
+  store-of e z =
+      let (counts, good) = within-rules (termsCounts names w used) (termsRule names [] (decode termLayout used w)) (sym e ∙ z) in
+      let some : used ≤ min (count termLayout w) limit = leb→le _ _ (both-of (whole termLayout w && leb (length names) limit) (leb used (min (count termLayout w) limit)) counts .1) in
+      record { fits = count-fits termLayout term-lays w used (omega arith); good = good }
+
+  module _ (s n p m : ℕ) {number : ℕ} (e : number ≡ termsNumber names w used) where
+    pub compared-refused : (number ≡ 0 → ⊥) → (number, false) ≡ comparedRuns names w used s n p m
+    unfolding comparedRuns decidedBy
+    compared-refused h = rw (← e) (refused number h)
+      where
+        refused : (k : ℕ) → (k ≡ 0 → ⊥) → (k, false) ≡ decidedBy k (leb (s + n) used && leb (p + m) used) (equalRuns names w used s n p m)
+        refused zero h = absurd (h refl)
+        refused (suc k) h = refl
+
+    module _ (z : number ≡ 0) where
+      pub compared-first : used < s + n → (5, false) ≡ comparedRuns names w used s n p m
+      unfolding comparedRuns decidedBy
+      compared-first h = rw (← e, z, lt-leb _ _ h) refl
+
+      pub compared-second : s + n ≤ used → used < p + m → (5, false) ≡ comparedRuns names w used s n p m
+      unfolding comparedRuns decidedBy
+      compared-second k h = rw (← e, z, le-leb _ _ k, lt-leb _ _ h) refl
+
+      pub compared-both : {b : Bool} → s + n ≤ used → p + m ≤ used → b ≡ equalRuns names w used s n p m → (0, b) ≡ comparedRuns names w used s n p m
+      unfolding comparedRuns decidedBy
+      compared-both k h q = rw (← e, z, le-leb _ _ k, le-leb _ _ h, ← q) refl

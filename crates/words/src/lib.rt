@@ -1,0 +1,110 @@
+// Records of words in lent slices, as structs by value. `word` and `set_word` alone see words and casts.
+ghost use mathlib.Core.Path.{_≡_};
+ghost use mathlib.Core.List.{[], _∷_};
+ghost use Prim.Native.Nat.{ℕ, _+_, _*_, _<_, _≤_, _^_};
+ghost use lib.ListN.{length, getD, set};
+ghost use Rattle.term_spec.specs.Words.{recordAt, write};
+ghost use Rattle.term_spec.specs.Term.{termLayout};
+ghost use Rattle.view_spec.specs.Node.{nodeLayout};
+ghost use Rattle.words.specs.Records.{asTerm, Small, asNode, SmallNode};
+
+// One term, its words widened.
+pub struct Term {
+    pub kind: usize,
+    pub a: usize,
+    pub b: usize,
+    pub c: usize,
+}
+
+// One node, its words widened.
+pub struct Node {
+    pub kind: usize,
+    pub a: usize,
+    pub b: usize,
+    pub c: usize,
+    pub height: usize,
+    pub reach: usize,
+}
+
+// The widths of a term record and of a node record, in words.
+pub const TERM_WIDTH: usize = 4;
+
+pub const NODE_WIDTH: usize = 6;
+
+fn wide(x: u32) -> usize
+    ensures { λ r. ⌜ r ≡ x ⌝ }
+{
+    x as usize
+}
+
+// The word at p.
+pub fn word(words: &[u32], p: usize) -> usize
+    requires { ⌜ p < length (now words) ⌝ }
+    ensures { λ r. ⌜ r ≡ getD (now (words .entry)) p 0 ⌝ }
+{
+    wide(words[p])
+}
+
+// x goes to the word at p.
+pub fn set_word(words: &mut [u32], p: usize, x: usize)
+    requires { ⌜ (p < length (now words)) × (x < 2 ^ 32) ⌝ }
+    ensures { λ _. ⌜ now (words .exit) ≡ set (now (words .entry)) p x ⌝ }
+{
+    words[p] = x as u32;
+}
+
+// Term i.
+pub fn get_term(terms: &[u32], i: usize) -> Term
+    requires { ⌜ i * 4 + 4 ≤ length (now terms) ⌝ }
+    ensures { λ r. ⌜ asTerm r ≡ recordAt termLayout (now (terms .entry)) i ⌝ }
+{
+    let p = i * TERM_WIDTH;
+    Term {
+        kind: word(terms, p),
+        a: word(terms, p + 1),
+        b: word(terms, p + 2),
+        c: word(terms, p + 3),
+    }
+}
+
+// t becomes term i.
+pub fn put_term(terms: &mut [u32], i: usize, t: Term)
+    requires { ⌜ (i * 4 + 4 ≤ length (now terms)) × Small t ⌝ }
+    ensures { λ _. ⌜ now (terms .exit) ≡ write termLayout (now (terms .entry)) i (asTerm t ∷ []) ⌝ }
+{
+    let p = i * TERM_WIDTH;
+    set_word(terms, p, t.kind);
+    set_word(terms, p + 1, t.a);
+    set_word(terms, p + 2, t.b);
+    set_word(terms, p + 3, t.c);
+}
+
+// Node i.
+pub fn get_node(nodes: &[u32], i: usize) -> Node
+    requires { ⌜ i * 6 + 6 ≤ length (now nodes) ⌝ }
+    ensures { λ r. ⌜ asNode r ≡ recordAt nodeLayout (now (nodes .entry)) i ⌝ }
+{
+    let p = i * NODE_WIDTH;
+    Node {
+        kind: word(nodes, p),
+        a: word(nodes, p + 1),
+        b: word(nodes, p + 2),
+        c: word(nodes, p + 3),
+        height: word(nodes, p + 4),
+        reach: word(nodes, p + 5),
+    }
+}
+
+// n becomes node i.
+pub fn put_node(nodes: &mut [u32], i: usize, n: Node)
+    requires { ⌜ (i * 6 + 6 ≤ length (now nodes)) × SmallNode n ⌝ }
+    ensures { λ _. ⌜ now (nodes .exit) ≡ write nodeLayout (now (nodes .entry)) i (asNode n ∷ []) ⌝ }
+{
+    let p = i * NODE_WIDTH;
+    set_word(nodes, p, n.kind);
+    set_word(nodes, p + 1, n.a);
+    set_word(nodes, p + 2, n.b);
+    set_word(nodes, p + 3, n.c);
+    set_word(nodes, p + 4, n.height);
+    set_word(nodes, p + 5, n.reach);
+}
