@@ -1,0 +1,6 @@
+pub mod Turn
+pub mod TurnLaws
+pub mod Outer
+pub mod WriteLaws
+pub mod OuterLaws
+pub mod DownLaws

@@ -1,0 +1,3 @@
+pub mod Store
+pub mod RuleLaws
+pub mod MakeLaws

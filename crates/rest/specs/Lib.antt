@@ -1,0 +1,4 @@
+pub mod Rest
+pub mod StopLaws
+pub mod WriteLaws
+pub mod BuildLaws
