@@ -42,7 +42,7 @@ wanted-few headOnly zero = omega arith
 wanted-few headOnly (suc n) = omega arith
 
 -- as many slots as fit whole
-slots-fit : (words k n : ℕ) → n ≤ slotsIn words k → n * k * 2 ≤ words
+pub slots-fit : (words k n : ℕ) → n ≤ slotsIn words k → n * k * 2 ≤ words
 unfolding slotsIn
 slots-fit words zero n h = let z : n * zero ≡ 0 = mul-comm n zero ∙ omega arith in omega (arith, z)
 slots-fit words (suc k) n h =

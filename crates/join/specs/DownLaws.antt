@@ -15,7 +15,7 @@ use Rattle.nodes.specs.RuleLaws.{below-at}
 use Rattle.join.specs.Turn.{Turned}
 use Rattle.join.specs.TurnLaws.{any, good-any, makes-base, makes-single, makes-double, rest-single, rest-double}
 use Rattle.join.specs.Outer.{outer, wrap, completed, Became, planBefore, grown}
-use Rattle.join.specs.WriteLaws.{put-length, put-next, put-below, put-here, put-after, put-above, written}
+use Rattle.nodes.specs.WriteLaws.{put-length, put-upto, put-below, put-here, put-above, put-later, written}
 use Rattle.join.specs.OuterLaws.{Grows, snoc-grows, grow-grows, wrap-grows, wrap-same, made-last, Ready, ready}
 use Rattle.join.specs.declared.Turn.{Turn}
 use Rattle.join.specs.declared.Turn.the-variants.{Base, Single, Double}
@@ -36,7 +36,7 @@ kept-put w terms used end v i n lo hi fits k =
       store = record { fits = omega (arith, k .store .fits); few = k .store .few; good = rw same (k .store .good) };
       front = same ∙ k .front;
       size = l ∙ k .size;
-      after = put-after v i n fits end hi ∙ k .after;
+      after = put-above v i n fits end hi ∙ k .after;
     }
 
 -- An outer record reserved just below the others stands for the Concat that it will be.
@@ -53,7 +53,7 @@ reserved v lo hi end right a b p lh he fits e =
     ap (λ ns. wrap x (hi - 1) (end - (hi - 1)) (grow right p ns)) (put-below v (hi - 1) (outer a b) f lo (omega arith))
     ∙ ap (λ k. wrap x (hi - 1) k g) t
     ∙ ap (λ (n : Node). wrap x (suc (hi - 1)) (end - hi) (makeConcat g (n .a) (n .b) (last g))) (put-here v (hi - 1) (outer a b) f)
-    ∙ wrap-same v x (suc (hi - 1)) (end - hi) _ (λ j q. put-above v (hi - 1) (outer a b) f j (omega arith))
+    ∙ wrap-same v x (suc (hi - 1)) (end - hi) _ (λ j q. put-later v (hi - 1) (outer a b) f j (omega arith))
     ∙ ap (λ k. wrap v k (end - hi) (makeConcat g a b (last g))) s
     ∙ e
 
@@ -190,8 +190,8 @@ module _ {w : List ℕ} {terms used right h end : ℕ} {z : List Node} {v : List
         let made = concatNode (nodesIn v lo) l m right in
         let x : List ℕ = write nodeLayout v lo (made ∷ []) in
         ap (λ k. wrap x hi (end - hi) (nodesIn x k)) base-high
-        ∙ ap (wrap x hi (end - hi)) (put-next v lo made base-room)
-        ∙ wrap-same v x hi (end - hi) _ (λ j q. put-above v lo made base-room j (omega (arith, base-high)))
+        ∙ ap (wrap x hi (end - hi)) (put-upto v lo made base-room)
+        ∙ wrap-same v x hi (end - hi) _ (λ j q. put-later v lo made base-room j (omega (arith, base-high)))
         ∙ base-nodes
 
     pub base-next : {x : List ℕ} → x ≡ write nodeLayout v lo (concatNode (nodesIn v lo) l m right ∷ []) → Closes w terms used hi end z x
@@ -255,14 +255,14 @@ module _ {w : List ℕ} {terms used right h end : ℕ} {z : List Node} {v : List
       head-kept = rw eu (kept-put w terms used end v lo (concatNode (nodesIn v lo) a b c) (d .low) (omega (arith, double-high, d .le)) double-room (d .kept))
 
       head-nodes : nodesIn u (lo + 1) ≡ makeConcat (nodesIn v lo) a b c
-      head-nodes = rw eu (put-next v lo (concatNode (nodesIn v lo) a b c) double-room)
+      head-nodes = rw eu (put-upto v lo (concatNode (nodesIn v lo) a b c) double-room)
 
       double-is : wrap u hi (end - hi) (makeConcat (grow right (plan (nodesIn w used) h x m) (nodesIn u (lo + 1))) lo (b + f)
           (last (grow right (plan (nodesIn w used) h x m) (nodesIn u (lo + 1))))) ≡ z
       double-is =
           let p : Plan = plan (nodesIn w used) h x m in
           ap (λ ns. wrap u hi (end - hi) (makeConcat (grow right p ns) lo (b + f) (last (grow right p ns)))) head-nodes
-          ∙ wrap-same v u hi (end - hi) _ (λ j q. rw eu (put-above v lo (concatNode (nodesIn v lo) a b c) double-room j (omega (arith, double-high))))
+          ∙ wrap-same v u hi (end - hi) _ (λ j q. rw eu (put-later v lo (concatNode (nodesIn v lo) a b c) double-room j (omega (arith, double-high))))
           ∙ ap (λ k. wrap v hi (end - hi) (makeConcat (grow right p (makeConcat (nodesIn v lo) a b c)) k (b + f) (last (grow right p (makeConcat (nodesIn v lo) a b c)))))
           (sym (decode-length nodeLayout lo v))
           ∙ double-nodes

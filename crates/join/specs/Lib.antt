@@ -1,6 +1,5 @@
 pub mod Turn
 pub mod TurnLaws
 pub mod Outer
-pub mod WriteLaws
 pub mod OuterLaws
 pub mod DownLaws

@@ -15,7 +15,7 @@ use Rattle.view_spec.specs.Build.{Plan, base, single, double, last, makeConcat,
 use Rattle.nodes.specs.Store.{nodesIn, Store}
 use Rattle.join.specs.TurnLaws.{any, good-any, concat-at}
 use Rattle.join.specs.Outer.{wrap, completed, Became}
-use Rattle.join.specs.WriteLaws.{put-length, put-next, put-after, put-above}
+use Rattle.nodes.specs.WriteLaws.{put-length, put-upto, put-above, put-later}
 
 -- ---- a store's first nodes ----
 
@@ -154,8 +154,8 @@ module _ {w : List ℕ} {terms end : ℕ} {z : List Node} {v : List ℕ} {k : �
           room = omega (arith, u .room);
           good = u .good;
           size = l ∙ u .size;
-          after = put-after v k made fits end h ∙ u .after;
-          nodes = ap (wrap (write nodeLayout v k (made ∷ [])) (k + 1) (end - (k + 1))) (put-next v k made fits)
-              ∙ wrap-same v (write nodeLayout v k (made ∷ [])) (k + 1) (end - (k + 1)) _ (λ j q. put-above v k made fits j (omega arith))
+          after = put-above v k made fits end h ∙ u .after;
+          nodes = ap (wrap (write nodeLayout v k (made ∷ [])) (k + 1) (end - (k + 1))) (put-upto v k made fits)
+              ∙ wrap-same v (write nodeLayout v k (made ∷ [])) (k + 1) (end - (k + 1)) _ (λ j q. put-later v k made fits j (omega arith))
               ∙ ap (λ i. wrap v i (end - i) (makeConcat (nodesIn v k) (n .a) (n .b) (k - 1))) s ∙ one-more;
         })

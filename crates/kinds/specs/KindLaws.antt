@@ -1,7 +1,7 @@
 -- The table on records is the table on values, and what the code's tests of a record come to.
 use mathlib.Core.Path.{_≡_, refl, ap, sym, _∙_}
 use mathlib.Core.List.{List, []}
-use mathlib.Core.Bool.{Bool, false}
+use mathlib.Core.Bool.{false}
 use lib.ListN.{length, getD, List·getD-eq-default}
 use Prim.Native.Nat.{ℕ, suc, zero, _+_, _<_, _≤_}
 use native.Mathlib.Omega.{arith}

@@ -1,10 +1,10 @@
 -- Which variable takes which kind of term, on records.
-use mathlib.Core.List.{List, []}
+use mathlib.Core.List.{[]}
 use mathlib.Core.Bool.{Bool, false}
 use lib.ListN.{getD}
 use Prim.Native.Nat.{ℕ, suc, zero}
 use Rattle.term_spec.specs.Term.{Term}
-use Rattle.term_spec.specs.Value.{takesTable, unknownColumn, takesRow, valueOf}
+use Rattle.term_spec.specs.Value.{takesTable, unknownColumn}
 
 -- The entry of the specification's table.
 unfoldable pub takesAt : ℕ → ℕ → Bool

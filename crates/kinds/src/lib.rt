@@ -1,7 +1,7 @@
 // Which variable takes which kind of term: one table, indexed twice. From matcher.rs (`variable_accepts`).
 use words::Term;
 ghost use mathlib.Core.Path.{_≡_};
-ghost use Prim.Native.Nat.{_+_, _*_, _<_, _≤_};
+ghost use Prim.Native.Nat.{_+_, _<_};
 ghost use Rattle.words.specs.Records.{asTerm};
 ghost use Rattle.kinds.specs.Kinds.{columnOf, takesAt, takesTerm};
 

@@ -19,3 +19,4 @@ pub mod RustSplitsLaws
 pub mod RustSplitsExamples
 pub mod PatternExamples
 pub mod WalkExamples
+pub mod PatternLaws

@@ -54,12 +54,12 @@ module _ (names : List ℕ) (ts : List Term) where
   unfolding cellsOf Valid
   inner-shows valid r l c e = let (lt, k, z) = bracket-at r l c e in ap forms (sym (part-below (values names ts) _ _ (r .start) (valid (r .start) lt k))) ∙ z
 
-  front-shows : (k : ℕ) (r : Run) → k ≤ length (cellsOf names ts r) → cellsOf names ts (record { start = r .start; len = k }) ≡ take k (cellsOf names ts r)
+  pub front-shows : (k : ℕ) (r : Run) → k ≤ length (cellsOf names ts r) → cellsOf names ts (record { start = r .start; len = k }) ≡ take k (cellsOf names ts r)
   unfolding cellsOf
   front-shows k r h =
       ap forms (take-within k (r .len) (drop (r .start) (values names ts)) (rw length-map at h)) ∙ map-take canon k (take (r .len) (drop (r .start) (values names ts)))
 
-  back-shows : (k : ℕ) (r : Run) → cellsOf names ts (record { start = r .start + k; len = r .len - k }) ≡ drop k (cellsOf names ts r)
+  pub back-shows : (k : ℕ) (r : Run) → cellsOf names ts (record { start = r .start + k; len = r .len - k }) ≡ drop k (cellsOf names ts r)
   unfolding cellsOf
   back-shows k r =
       ap (λ z. forms (take (r .len - k) z)) (sym (drop-drop k (r .start) (values names ts)))
@@ -86,7 +86,7 @@ cells-kept names ts more r h = ap forms (values-part names ts more r h)
 abbrev pub Inside : ℕ → Run → Type 0
 Inside used r = r .start + r .len ≤ used
 
-inner-inside : (names : List ℕ) (ts : List Term) → Valid ts → (r : Run) (l c : Level) → cellsOf names ts r ≡ bracketed l ∷ c
+pub inner-inside : (names : List ℕ) (ts : List Term) → Valid ts → (r : Run) (l c : Level) → cellsOf names ts r ≡ bracketed l ∷ c
     → Inside (length ts) (contentsRun (getD ts (r .start) noTerm))
 unfolding Valid
 inner-inside names ts valid r l c e = let (lt, k, z) = bracket-at names ts r l c e in omega (arith, valid (r .start) lt k)

@@ -52,7 +52,7 @@ through-some : {o : Option Level} (f : Level → Bool) (l : Level) → o ≡ som
 unfolding through
 through-some f l e q = rw e q
 
-strip-at : {c : Level} (x t : Level) → c ≡ x ++ t → strip x c ≡ some t
+pub strip-at : {c : Level} (x t : Level) → c ≡ x ++ t → strip x c ≡ some t
 strip-at x t e = rw e (strip-is x t)
 
 known-value : {B : Env} (n : ℕ) (env : Env) → (new : Env) × (B ≡ env ++ new) → n < length env → entry env n ≡ entry B n

@@ -1,3 +1,4 @@
 pub mod Store
 pub mod RuleLaws
 pub mod MakeLaws
+pub mod WriteLaws

@@ -21,7 +21,7 @@ fn larger(a: usize, b: usize) -> usize
     a
 }
 
-fn smaller(a: usize, b: usize) -> usize
+pub fn smaller(a: usize, b: usize) -> usize
     ensures { λ r. ⌜ r ≡ min a b ⌝ }
 {
     if a < b {

@@ -15,7 +15,7 @@ use Rattle.nodes.specs.Store.{nodesIn, Store}
 use Rattle.rest.specs.declared.Stop.the-variants.{Stay, Cut, Under}
 use Rattle.rest.specs.Rest.{Stopped, outerNode, whole, fill, lastOf, Ready, Fills}
 use Rattle.rest.specs.StopLaws.{makes-stay, makes-cut, makes-under}
-use Rattle.rest.specs.WriteLaws.{put-length, put-below, put-upto, put-here, put-above, later, same-at, is-write}
+use Rattle.nodes.specs.WriteLaws.{put-length, put-below, put-upto, put-here, put-above, later, same-at, is-write}
 
 -- ---- completing the outer Concats, one at a time ----
 

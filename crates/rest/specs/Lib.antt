@@ -1,4 +1,3 @@
 pub mod Rest
 pub mod StopLaws
-pub mod WriteLaws
 pub mod BuildLaws

@@ -3,9 +3,10 @@ use mathlib.Core.Path.{_≡_, refl, ap, ap₂, sym, _∙_}
 use mathlib.Core.List.{List, [], _∷_, _++_, map, List·Memᴰ, List·Memᴰ·head, List·Memᴰ·tail, List·Memᴰ·not-nil, List·Memᴰ·cases-cons}
 use mathlib.Core.Logic.{_⊎_, inl, inr}
 use mathlib.Core.Option.{some}
-use lib.ListN.{length, getElem?, take, drop, length-drop}
-use lib.Seq.{take-append-le, drop-append-le, take-take, take-nil, length-take-le, take-append-add, drop-append-add}
-use Prim.Native.Nat.{ℕ, suc, zero, _+_, _-_, _≤_}
+use lib.ListN.{length, getD, getElem?, take, drop, length-drop}
+use lib.Seq.{drop-cons, take-append-le, drop-append-le, take-take, take-nil, length-take-le, take-append-add, drop-append-add}
+use Prim.Native.Nat.{ℕ, suc, zero, _+_, _-_, _≤_, _<_}
+use native.Mathlib.Numerals.{add-one}
 use native.Mathlib.Omega.{arith}
 
 pub map-take : {A B : Type 0} (f : A → B) (n : ℕ) (l : List A) → map f (take n l) ≡ take n (map f l)
@@ -17,6 +18,13 @@ pub map-drop : {A B : Type 0} (f : A → B) (n : ℕ) (l : List A) → map f (dr
 map-drop f zero l = refl
 map-drop f (suc n) [] = refl
 map-drop f (suc n) (x ∷ l) = map-drop f n l
+
+-- An entry of a list and those after it, and the same of what they are mapped to.
+pub entry-next : {A : Type 0} (l : List A) (i : ℕ) (d : A) → i < length l → drop i l ≡ getD l i d ∷ drop (i + 1) l
+entry-next l i d h = drop-cons l i d h ∙ ap (λ n. getD l i d ∷ drop n l) (sym (add-one i))
+
+pub map-next : {A B : Type 0} (f : A → B) (l : List A) (i : ℕ) {y : A} → drop i l ≡ y ∷ drop (i + 1) l → drop i (map f l) ≡ f y ∷ drop (i + 1) (map f l)
+map-next f l i {y} e = sym (map-drop f i l) ∙ ap (map f) e ∙ ap (f y ∷_) (map-drop f (i + 1) l)
 
 pub map-map : {A B C : Type 0} (g : B → C) (f : A → B) (l : List A) → map g (map f l) ≡ map (λ x. g (f x)) l
 map-map g f [] = refl

@@ -2,10 +2,11 @@
 use mathlib.Core.Path.{_≡_, refl, ap, ap₂, sym, _∙_}
 use mathlib.Core.List.{List, [], _∷_, _++_, append-assoc, append-nil}
 use lib.ListN.{length, getD, take, drop, length-append, length-drop, take-append-drop}
-use lib.Seq.{take-append-le, drop-append-le, take-at, drop-at, drop-drop, length-take-le}
+use lib.Seq.{take-append-le, drop-append-le, take-at, drop-at, take-add, drop-drop, drop-append-add, drop-length, length-take-le}
 use Prim.Native.Nat.{ℕ, suc, zero, _+_, _*_, _-_, _/_, _%_, _≤_, _<_}
 use native.Mathlib.Omega.{arith}
 use native.Mathlib.Nat.{suc-mul, add-mul, le-div-iff-mul-le, mul-le-mul-right}
+use Rattle.term_spec.specs.ListLaws.{entry-next}
 use Rattle.term_spec.specs.Words.{Layout, decode, recordAt, encode, count, whole, records, write}
 use Rattle.term_spec.specs.Term.{termOf, termLayout, runOf, runLayout}
 
@@ -22,6 +23,19 @@ term-lays = record { some-words = omega arith; sized = λ r. refl; reads = λ r.
 pub run-lays : Lays runLayout
 unfolding runOf
 run-lays = record { some-words = omega arith; sized = λ r. refl; reads = λ r. refl }
+
+-- A record read loses nothing of its words.
+abbrev pub Keeps : {A : Type 0} → Layout A → Type 0
+Keeps L = (w : List ℕ) → length w ≡ L .width → L .words (L .read w) ≡ w
+
+pub term-keeps : Keeps termLayout
+unfolding termOf
+term-keeps [] h = absurd (omega arith)
+term-keeps (a ∷ []) h = absurd (omega arith)
+term-keeps (a ∷ b ∷ []) h = absurd (omega arith)
+term-keeps (a ∷ b ∷ c ∷ []) h = absurd (omega arith)
+term-keeps (a ∷ b ∷ c ∷ d ∷ []) h = refl
+term-keeps (a ∷ b ∷ c ∷ d ∷ e ∷ w) h = absurd (omega arith)
 
 part-of-sum : (k n w : ℕ) → suc k * w ≤ n → (w ≤ n) × (k * w ≤ n - w)
 part-of-sum k n w h = let e = suc-mul k w in (omega arith, omega arith)
@@ -44,9 +58,9 @@ decode-drop L (suc n) (suc s) w =
     let z : suc n - suc s ≡ n - s = omega arith in
     decode-drop L n s (drop (L .width) w) ∙ ap (decode L (n - s)) (next-words (L .width) s w) ∙ rw z refl
 
-record-next : {A : Type 0} (L : Layout A) (i : ℕ) (w : List ℕ) → recordAt L (drop (L .width) w) i ≡ recordAt L w (suc i)
+record-after : {A : Type 0} (L : Layout A) (i : ℕ) (w : List ℕ) → recordAt L (drop (L .width) w) i ≡ recordAt L w (suc i)
 unfolding recordAt
-record-next L i w = ap (λ v. L .read (take (L .width) v)) (next-words (L .width) i w)
+record-after L i w = ap (λ v. L .read (take (L .width) v)) (next-words (L .width) i w)
 
 -- record i of the words after s records is record s + i
 pub record-drop : {A : Type 0} (L : Layout A) (s i : ℕ) (w : List ℕ) → recordAt L (drop (s * L .width) w) i ≡ recordAt L w (s + i)
@@ -64,14 +78,23 @@ pub decode-at : {A : Type 0} (L : Layout A) (n i : ℕ) (w : List ℕ) (d : A) �
 unfolding decode
 decode-at L zero i w d h = absurd (omega arith)
 decode-at L (suc n) zero w d h = first-record L w
-decode-at L (suc n) (suc i) w d h = decode-at L n i (drop (L .width) w) d (omega arith) ∙ record-next L i w
+decode-at L (suc n) (suc i) w d h = decode-at L n i (drop (L .width) w) d (omega arith) ∙ record-after L i w
+
+-- Record i of the first n, and those after it; none are left after all n.
+module _ {A : Type 0} (L : Layout A) (n : ℕ) (w : List ℕ) (i : ℕ) where
+  pub record-next : {r : A} → i < n → r ≡ recordAt L w i → drop i (decode L n w) ≡ r ∷ drop (i + 1) (decode L n w)
+  record-next {r} h e =
+      entry-next (decode L n w) i (L .read []) (rw decode-length h) ∙ ap (_∷ drop (i + 1) (decode L n w)) (decode-at L n i w (L .read []) h ∙ sym e)
+
+  pub records-done : i ≡ n → drop i (decode L n w) ≡ []
+  records-done e = ap (λ k. drop k (decode L n w)) (e ∙ sym (decode-length L n w)) ∙ drop-length (decode L n w)
 
 -- one record more
 pub decode-snoc : {A : Type 0} (L : Layout A) (n : ℕ) (w : List ℕ) → decode L (suc n) w ≡ decode L n w ++ (recordAt L w n ∷ [])
 unfolding decode
 decode-snoc L zero w = ap (_∷ []) (first-record L w)
 decode-snoc L (suc n) w =
-    ap (L .read (take (L .width) w) ∷_) (decode-snoc L n (drop (L .width) w) ∙ ap (λ r. decode L n (drop (L .width) w) ++ (r ∷ [])) (record-next L n w))
+    ap (L .read (take (L .width) w) ∷_) (decode-snoc L n (drop (L .width) w) ∙ ap (λ r. decode L n (drop (L .width) w) ++ (r ∷ [])) (record-after L n w))
 
 -- the records below i are the first i of them
 pub decode-below : {A : Type 0} (L : Layout A) (n i : ℕ) (w : List ℕ) → i ≤ n → take i (decode L n w) ≡ decode L i w
@@ -111,6 +134,16 @@ decode-after L (suc n) m w x e =
     ∙ ap₂ (λ y u. L .read y ∷ decode L (n + m) u) (take-append-le (L .width) w x p) (drop-append-le (L .width) w x p)
     ∙ ap (L .read (take (L .width) w) ∷_) (decode-after L n m (drop (L .width) w) x l)
 
+-- the words of the first n records are the first n times width words
+pub encode-decode : {A : Type 0} (L : Layout A) → Keeps L → (n : ℕ) (w : List ℕ) → n * L .width ≤ length w → encode L (decode L n w) ≡ take (n * L .width) w
+unfolding encode decode
+encode-decode L keeps zero w h = let z : zero * L .width ≡ zero = omega arith in ap (λ m. take m w) (sym z)
+encode-decode L keeps (suc n) w h =
+    let (p, q) = part-of-sum n (length w) (L .width) h in
+    let z : L .width + n * L .width ≡ suc n * L .width = omega (arith, suc-mul n (L .width)) in
+    ap₂ _++_ (keeps (take (L .width) w) (length-take-le (L .width) w p)) (encode-decode L keeps n (drop (L .width) w) (rw length-drop q))
+    ∙ sym (take-add (L .width) (n * L .width) w) ∙ ap (λ m. take m w) z
+
 module _ {A : Type 0} (L : Layout A) (lays : Lays L) where
   pub encode-length : (rs : List A) → length (encode L rs) ≡ length rs * L .width
   unfolding encode
@@ -148,6 +181,23 @@ module _ {A : Type 0} (L : Layout A) (lays : Lays L) where
       let q : (i + length rs) * L .width ≡ i * L .width + length rs * L .width = add-mul i (length rs) (L .width) in
       length-append (take (i * L .width) w ++ encode L rs) (drop ((i + length rs) * L .width) w)
       ∙ omega (arith, length-append (take (i * L .width) w) (encode L rs), length-take-le (i * L .width) w (omega arith), encode-length rs, length-drop ((i + length rs) * L .width) w)
+
+  -- records written, then others after them
+  pub write-append : (w : List ℕ) (i : ℕ) (rs qs : List A) → (i + length rs) * L .width ≤ length w → write L (write L w i rs) (i + length rs) qs ≡ write L w i (rs ++ qs)
+  unfolding write
+  write-append w i rs qs h =
+      let a = take (i * L .width) w ++ encode L rs in
+      let d = drop ((i + length rs) * L .width) w in
+      let s : (i + length rs) * L .width ≡ i * L .width + length rs * L .width = add-mul i (length rs) (L .width) in
+      let l : length a ≡ (i + length rs) * L .width =
+      length-append (take (i * L .width) w) (encode L rs) ∙ omega (arith, length-take-le (i * L .width) w (omega arith), encode-length rs) in
+      let m : (i + length rs + length qs) * L .width ≡ length a + length qs * L .width = add-mul (i + length rs) (length qs) (L .width) ∙ omega arith in
+      let k : (i + length rs) * L .width + length qs * L .width ≡ (i + length (rs ++ qs)) * L .width =
+      sym (add-mul (i + length rs) (length qs) (L .width)) ∙ ap (_* L .width) (omega (arith, length-append rs qs)) in
+      ap₂ (λ x y. x ++ encode L qs ++ y) (take-at a d ((i + length rs) * L .width) l)
+      (ap (λ n. drop n (a ++ d)) m ∙ drop-append-add a d (length qs * L .width) ∙ drop-drop (length qs * L .width) ((i + length rs) * L .width) w ∙ ap (λ n. drop n w) k)
+      ∙ ap (_++ drop ((i + length (rs ++ qs)) * L .width) w)
+      (append-assoc (take (i * L .width) w) (encode L rs) (encode L qs) ∙ ap (take (i * L .width) w ++_) (sym (encode-append rs qs)))
 
   pub write-none : (w : List ℕ) (i : ℕ) → write L w i [] ≡ w
   unfolding write encode

@@ -174,110 +174,80 @@ fn tell(case: &[u8], answer: Compared) {
 }
 
 // Terms 0 to 11: Day, DAY, 7, 007, (Day), (DAY), () twice, one unknown twice and another, the Char 7.
+const COMPARED: [u32; 48] = [
+    1,
+    0,
+    3,
+    0,
+    1,
+    3,
+    3,
+    0,
+    2,
+    8,
+    1,
+    0,
+    2,
+    6,
+    3,
+    0,
+    3,
+    0,
+    1,
+    1,
+    3,
+    1,
+    1,
+    1,
+    3,
+    0,
+    0,
+    1,
+    3,
+    2,
+    0,
+    1,
+    4,
+    1,
+    5,
+    6,
+    4,
+    1,
+    5,
+    6,
+    4,
+    1,
+    5,
+    7,
+    0,
+    55,
+    0,
+    0,
+];
+
+// Two runs of those terms, so many being used.
+fn compare(case: &[u8], used: usize, s: usize, n: usize, p: usize, m: usize) {
+    let terms = COMPARED;
+    tell(
+        case,
+        value::compare_runs(b"DayDAY007", &terms, used, s, n, p, m),
+    );
+}
+
 fn equality() {
-    let names = b"DayDAY007";
-    let terms = [
-        1u32,
-        0,
-        3,
-        0,
-        1,
-        3,
-        3,
-        0,
-        2,
-        8,
-        1,
-        0,
-        2,
-        6,
-        3,
-        0,
-        3,
-        0,
-        1,
-        1,
-        3,
-        1,
-        1,
-        1,
-        3,
-        0,
-        0,
-        1,
-        3,
-        2,
-        0,
-        1,
-        4,
-        1,
-        5,
-        6,
-        4,
-        1,
-        5,
-        6,
-        4,
-        1,
-        5,
-        7,
-        0,
-        55,
-        0,
-        0,
-    ];
-    tell(
-        b"Day on DAY",
-        value::compare_runs(names, &terms, 12, 0, 1, 1, 1),
-    );
-    tell(
-        b"7 on 007",
-        value::compare_runs(names, &terms, 12, 2, 1, 3, 1),
-    );
-    tell(
-        b"(Day) on (DAY)",
-        value::compare_runs(names, &terms, 12, 4, 1, 5, 1),
-    );
-    tell(
-        b"() on ()",
-        value::compare_runs(names, &terms, 12, 6, 1, 7, 1),
-    );
-    tell(
-        b"An unknown on itself",
-        value::compare_runs(names, &terms, 12, 8, 1, 9, 1),
-    );
-    tell(
-        b"An unknown on another",
-        value::compare_runs(names, &terms, 12, 8, 1, 10, 1),
-    );
-    tell(
-        b"Number 7 on Char 7",
-        value::compare_runs(names, &terms, 12, 2, 1, 11, 1),
-    );
-    tell(
-        b"Day DAY on Day",
-        value::compare_runs(names, &terms, 12, 0, 2, 0, 1),
-    );
-    tell(
-        b"All on all",
-        value::compare_runs(names, &terms, 12, 0, 12, 0, 12),
-    );
-    tell(
-        b"Nothing on nothing, at the end",
-        value::compare_runs(names, &terms, 12, 12, 0, 0, 0),
-    );
-    tell(
-        b"A run past the end",
-        value::compare_runs(names, &terms, 12, 12, 1, 0, 1),
-    );
-    tell(
-        b"An empty run past the end",
-        value::compare_runs(names, &terms, 12, 0, 1, 13, 0),
-    );
-    tell(
-        b"A count past the slice",
-        value::compare_runs(names, &terms, 13, 0, 1, 1, 1),
-    );
+    compare(b"Day on DAY", 12, 0, 1, 1, 1);
+    compare(b"7 on 007", 12, 2, 1, 3, 1);
+    compare(b"(Day) on (DAY)", 12, 4, 1, 5, 1);
+    compare(b"() on ()", 12, 6, 1, 7, 1);
+    compare(b"An unknown on itself", 12, 8, 1, 9, 1);
+    compare(b"An unknown on another", 12, 8, 1, 10, 1);
+    compare(b"Number 7 on Char 7", 12, 2, 1, 11, 1);
+    compare(b"Day DAY on Day", 12, 0, 2, 0, 1);
+    compare(b"All on all", 12, 0, 12, 0, 12);
+    compare(b"Nothing on nothing, at the end", 12, 12, 0, 0, 0);
+    compare(b"A run past the end", 12, 12, 1, 0, 1);
+    compare(b"An empty run past the end", 12, 0, 1, 13, 0);
+    compare(b"A count past the slice", 13, 0, 1, 1, 1);
 }
 
 // Two stores of brackets in brackets, one above the other, each 255 deep: their outermost terms are compared.

@@ -2,8 +2,8 @@
 use mathlib.Core.List.{List, []}
 use mathlib.Core.Bool.{Bool, true, false, _&&_}
 use lib.Dec.{leb}
-use lib.ListN.{length, take, drop}
-use Prim.Native.Nat.{ℕ, _+_, _*_, min}
+use lib.ListN.{length, drop}
+use Prim.Native.Nat.{ℕ, _*_, min}
 use Rattle.term_spec.specs.Words.{decode, count, whole}
 use Rattle.term_spec.specs.Term.{Term, termLayout, limit, termsRule}
 

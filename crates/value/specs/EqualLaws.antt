@@ -6,11 +6,10 @@ use borrow.Author.Tests.{eq-eqb, ne-eqb, le-leb, lt-leb}
 use lib.Dec.{T, leb, eqb, leb→le, eqb→eq, eqb·suc-zero}
 use lib.ListN.{length, getD, take, drop, length-map}
 use lib.Seq.{drop-cons, getD-take, getD-drop}
-use Prim.Native.Nat.{ℕ, suc, zero, _+_, _-_, _*_, _<_, _≤_, min, max}
+use Prim.Native.Nat.{ℕ, suc, zero, _+_, _-_, _<_, _≤_, min}
 use native.Mathlib.Nat.{add-zero, sub-zero}
-use native.Mathlib.Numerals.{add-one}
 use native.Mathlib.Omega.{arith}
-use Rattle.term_spec.specs.BoolLaws.{both-of, and-of, eq→eqb, T-true}
+use Rattle.term_spec.specs.BoolLaws.{both-of, and-of, eq→eqb}
 use Rattle.term_spec.specs.ListLaws.{part-below, part-length}
 use Rattle.term_spec.specs.Words.{decode, recordAt, count, whole}
 use Rattle.term_spec.specs.WordsLaws.{term-lays, count-fits, decode-length, decode-at, decode-below}
@@ -44,7 +43,7 @@ kind-column (suc (suc (suc zero))) text t below = refl
 kind-column (suc (suc (suc (suc k)))) text t below = omega (arith, unknown-above (t .a))
 
 -- Values of different kinds are never equal.
-values-differ : (names : List ℕ) (t u : Term) (x y : List Value) → (min (t .kind) 4 ≡ min (u .kind) 4 → ⊥)
+pub values-differ : (names : List ℕ) (t u : Term) (x y : List Value) → (min (t .kind) 4 ≡ min (u .kind) 4 → ⊥)
     → isYes (same? (canon (valueOf names t x)) (canon (valueOf names u y))) ≡ false
 unfolding valueOf
 values-differ names t u x y h =
@@ -149,7 +148,7 @@ text-in test names o n c h =
     let l = both-of (leb 1 n && leb n 255 && leb (o + n) (length names)) (test (textAt names o n)) r .0 in
     leb→le _ _ (both-of (leb 1 n && leb n 255) (leb (o + n) (length names)) l .1)
 
-in-names : (k : ℕ) (names : List ℕ) (below : List Term) (t : Term) → T (termRuleK k names below t) → InNames k names t
+pub in-names : (k : ℕ) (names : List ℕ) (below : List Term) (t : Term) → T (termRuleK k names below t) → InNames k names t
 unfolding termRuleK symbolRule InNames
 in-names zero names below t h = tt
 in-names (suc zero) names below t h = text-in identifierText names (t .a) (t .b) (t .c) h
@@ -163,7 +162,7 @@ depth-in (t ∷ ts) zero h = omega arith
 depth-in (t ∷ ts) (suc k) h = omega (arith, depth-in ts k (omega arith))
 
 -- A value that is no bracket's does not look below.
-value-alone : (k : ℕ) (text : List ℕ) (t : Term) (below : List Value) → (k ≡ 3 → ⊥) → valueK k text t below ≡ valueK k text t []
+pub value-alone : (k : ℕ) (text : List ℕ) (t : Term) (below : List Value) → (k ≡ 3 → ⊥) → valueK k text t below ≡ valueK k text t []
 unfolding valueK
 value-alone zero text t below h = refl
 value-alone (suc zero) text t below h = refl
@@ -201,7 +200,7 @@ module _ (names w : List ℕ) (used : ℕ) where
   values-size : length (valuesIn names w used) ≡ used
   values-size = values-length names (decode termLayout used w) ∙ decode-length termLayout used w
 
-  value-at : (i : ℕ) (t : Term) → i < used → t ≡ recordAt termLayout w i
+  pub value-at : (i : ℕ) (t : Term) → i < used → t ≡ recordAt termLayout w i
       → getD (valuesIn names w used) i (char 0) ≡ valueOf names t (take i (valuesIn names w used))
   unfolding values
   value-at i t lt e =
@@ -265,7 +264,7 @@ module _ (names w : List ℕ) (used : ℕ) where
 
   -- ---- two runs of a store ----
 
-  run-size : (s n : ℕ) → s + n ≤ used → length (forms (part (valuesIn names w used) (record { start = s; len = n }))) ≡ n
+  pub run-size : (s n : ℕ) → s + n ≤ used → length (forms (part (valuesIn names w used) (record { start = s; len = n }))) ≡ n
   run-size s n h = length-map (part (valuesIn names w used) (record { start = s; len = n })) canon ∙ part-length (valuesIn names w used) s n (omega (arith, values-size))
 
   pub runs-lengths : (s n p m : ℕ) → s + n ≤ used → p + m ≤ used → (n ≡ m → ⊥) → false ≡ equalRuns names w used s n p m
@@ -284,7 +283,7 @@ module _ (names w : List ℕ) (used : ℕ) where
   unfolding runsFrom
   runs-all s n p m e = rw (add-zero s, add-zero p, sub-zero n, e)
 
-  first-of : (s n k : ℕ) → k < n → s + n ≤ used → forms (part (valuesIn names w used) (record { start = s + k; len = n - k }))
+  pub first-of : (s n k : ℕ) → k < n → s + n ≤ used → forms (part (valuesIn names w used) (record { start = s + k; len = n - k }))
       ≡ canon (getD (valuesIn names w used) (s + k) (char 0)) ∷ forms (part (valuesIn names w used) (record { start = s + (k + 1); len = n - (k + 1) }))
   first-of s n k lt h =
       let e : n - k ≡ suc (n - (k + 1)) = omega arith in

@@ -1,23 +1,22 @@
 -- Laws of the checks, one for each exit of the code that makes them.
-use mathlib.Core.Path.{_≡_, refl, ap, ap₂, sym, _∙_}
-use mathlib.Core.List.{List, [], _∷_}
-use mathlib.Core.Option.{Option, some, none}
+use mathlib.Core.Path.{_≡_, refl, ap, sym, _∙_}
+use mathlib.Core.List.{List}
+use mathlib.Core.Option.{Option, none}
 use mathlib.Core.Bool.{Bool, true, false, _&&_}
 use borrow.Author.Tests.{leb-true, le-leb, lt-leb, eq-eqb, ne-eqb}
-use lib.Dec.{T, leb, ltb}
+use lib.Dec.{leb}
 use lib.ListN.{length}
-use Prim.Native.Nat.{ℕ, suc, zero, _*_, _/_, _%_, _<_, _≤_, min}
+use Prim.Native.Nat.{ℕ, suc, _*_, _/_, _%_, _<_, _≤_, min}
 use native.Mathlib.Decide.{decLe}
 use native.Mathlib.Omega.{arith}
 use Rattle.term_spec.specs.BoolLaws.{both-of, true-T, T-true}
 use Rattle.term_spec.specs.Words.{whole, count}
 use Rattle.term_spec.specs.Term.{termLayout, limit}
-use Rattle.view_spec.specs.Node.{Node, Field, nodeLayout, emptyField, nodeAt, eachNode, nodesRule, fieldRule}
-use Rattle.view_spec.specs.Build.{takeField}
+use Rattle.view_spec.specs.Node.{Field, nodeLayout, fieldRule}
 use Rattle.calls_spec.specs.Store.{Store, terms, nodes, capacity, countsRule, storeTerms, storeNodes}
-use Rattle.calls_spec.specs.Step.{refused, built, ask, callTake, evenRule, arguments, input, room, accept, refuse, slotsLent, workLent, decide, step}
+use Rattle.calls_spec.specs.Step.{ask}
 use Rattle.value.specs.Check.{unless, termsCounts, termsNumber}
-use Rattle.view.specs.Check.{numbered, checked, leaves}
+use Rattle.view.specs.Check.{numbered, checked}
 
 pub nonzero : {n : ℕ} → suc n ≡ 0 → ⊥
 nonzero p = absurd (omega arith)

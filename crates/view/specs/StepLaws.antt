@@ -4,20 +4,21 @@ use mathlib.Core.List.{List, []}
 use mathlib.Core.Option.{Option, some, none}
 use mathlib.Core.Bool.{Bool, true, false, _&&_}
 use borrow.Author.Tests.{leb-true, le-leb, lt-leb}
-use lib.Dec.{T, leb}
+use lib.Dec.{leb}
 use lib.ListN.{length}
-use Prim.Native.Nat.{ℕ, suc, zero, _+_, _<_, _≤_, min}
+use Prim.Native.Nat.{ℕ, _+_, _/_, _<_, _≤_, min}
 use native.Mathlib.Omega.{arith}
 use Rattle.term_spec.specs.BoolLaws.{true-T}
-use Rattle.term_spec.specs.WordsLaws.{decode-length}
-use Rattle.term_spec.specs.Words.{whole, count, write}
-use Rattle.term_spec.specs.Term.{termLayout, limit}
+use Rattle.term_spec.specs.WordsLaws.{term-lays, decode-length, count-fits}
+use Rattle.term_spec.specs.Words.{whole, count, records}
+use Rattle.term_spec.specs.Term.{termLayout, runLayout, runsRule, limit}
 use Rattle.value.specs.Check.{termsCounts}
-use Rattle.view_spec.specs.Node.{Node, Field, nodeLayout, emptyField, nodeAt, eachNode, nodesRule, fieldRule}
+use Rattle.value.specs.Equal.{Store as TermStore}
+use Rattle.view_spec.specs.Node.{Field, nodeLayout, emptyField, nodeAt, eachNode, nodesRule, fieldRule}
 use Rattle.view_spec.specs.NodeLaws.{field-facts}
-use Rattle.calls_spec.specs.Store.{Store as Stores, nodes, capacity, countsRule, storeTerms, storeNodes, addNodes}
-use Rattle.view_spec.specs.Build.{takeField, rest, range}
-use Rattle.calls_spec.specs.Step.{Call, Answer, refused, built, callTake, callRest, callRange, After, ask, evenRule, arguments, input, room, accept, refuse, slotsLent, workLent, decide, step, build, newNodes, nodeRoom, afterBuild}
+use Rattle.calls_spec.specs.Store.{Store as Stores, terms, nodes, capacity, countsRule, storeTerms, storeNodes, addNodes}
+use Rattle.view_spec.specs.Build.{fromRuns, total, takeField, rest, range, join}
+use Rattle.calls_spec.specs.Step.{Call, Answer, refused, built, callFromRuns, callTake, callRest, callRange, callJoin, ask, evenRule, arguments, input, room, accept, refuse, slotsLent, workLent, decide, step, build, newNodes, nodeRoom, afterBuild}
 use Rattle.nodes.specs.Store.{nodesIn, Store}
 use Rattle.view.specs.Check.{storeOf, numbered, checked, leaves, grownIf, grownBy}
 use Rattle.view.specs.CheckLaws.{nonzero, and-true, and-left, and-right, nodesEven, even-fits, counts-apart}
@@ -50,22 +51,25 @@ alone-by true r q h = rw (h refl, and-true) refl
 alone-by false r q h = refl
 
 -- the empty field is never refused
-empty-ok : (s : Stores) (f : Field) → storeNodes s ≡ true → fieldRule (nodes s) emptyField ≡ true
+empty-ok : (s : Stores) → storeNodes s ≡ true → fieldRule (nodes s) emptyField ≡ true
 unfolding fieldRule storeNodes nodesRule
-empty-ok s f h = ap₂ _&&_ (and-left (leb 1 (length (nodes s))) (eachNode (s .termsUsed) [] (nodes s)) h) (le-leb 0 ((nodeAt (nodes s) 0) .reach) (omega arith))
+empty-ok s h = ap₂ _&&_ (and-left (leb 1 (length (nodes s))) (eachNode (s .termsUsed) [] (nodes s)) h) (le-leb 0 ((nodeAt (nodes s) 0) .reach) (omega arith))
 
 -- ---- the checks' order, with one test of the fields ----
 
--- The checks with the test r of the fields, and what comes after them.
-abbrev pub ordered : Stores → Bool → Option ℕ → Option ℕ
-ordered s r x = ask (countsRule s && true) 1 (ask (storeTerms s) 2 (ask (storeNodes s) 3 (ask r 4 x)))
+-- The checks with the test b of what else is lent and the test r of the fields, and what comes after them.
+abbrev pub ordered : Stores → Bool → Bool → Option ℕ → Option ℕ
+ordered s b r x = ask (countsRule s && b) 1 (ask (storeTerms s) 2 (ask (storeNodes s) 3 (ask r 4 x)))
 
-pub two-fields : (s : Stores) (f g : Field) → checked s true f g ≡ ordered s (fieldRule (nodes s) f && fieldRule (nodes s) g) none
+pub two-fields : (s : Stores) (b : Bool) (f g : Field) → checked s b f g ≡ ordered s b (fieldRule (nodes s) f && fieldRule (nodes s) g) none
 unfolding checked
-two-fields s f g = refl
+two-fields s b f g = refl
 
-pub one-field : (s : Stores) (f : Field) → checked s true f emptyField ≡ ordered s (fieldRule (nodes s) f) none
-one-field s f = two-fields s f emptyField ∙ ap (λ x. ask (countsRule s && true) 1 (ask (storeTerms s) 2 x)) (alone-by (storeNodes s) _ _ (empty-ok s f))
+pub one-field : (s : Stores) (b : Bool) (f : Field) → checked s b f emptyField ≡ ordered s b (fieldRule (nodes s) f) none
+one-field s b f = two-fields s b f emptyField ∙ ap (λ x. ask (countsRule s && b) 1 (ask (storeTerms s) 2 x)) (alone-by (storeNodes s) _ _ (empty-ok s))
+
+pub no-field : (s : Stores) (b : Bool) → checked s b emptyField emptyField ≡ ordered s b true none
+no-field s b = one-field s b emptyField ∙ ap (λ x. ask (countsRule s && b) 1 (ask (storeTerms s) 2 x)) (alone-by (storeNodes s) true _ (empty-ok s))
 
 -- ---- what the checks let pass ----
 
@@ -73,56 +77,68 @@ one-field s f = two-fields s f emptyField ∙ ap (λ x. ask (countsRule s && tru
 pub record Passed (s : Stores) : Type 0 where
   pub store : Store (s .nodeWords) (s .termsUsed) (s .nodesUsed)
   pub terms : s .termsUsed ≤ 65536
+  pub values : TermStore (s .names) (s .termWords) (s .termsUsed)
 
-module _ (s : Stores) (r : Bool) {n : ℕ} (e : n ≡ numbered (ordered s r none)) (z : n ≡ 0) where
+module _ (s : Stores) (b r : Bool) {n : ℕ} (e : n ≡ numbered (ordered s b r none)) (z : n ≡ 0) where
   pub passed : Passed s
-  unfolding termsCounts capacity storeNodes nodes
+  unfolding termsCounts capacity storeTerms storeNodes terms nodes
   passed =
-      let (h1, h2, h3, h4) = all-hold (countsRule s && true) (storeTerms s) (storeNodes s) r e z in
-      let h = sym (counts-apart s) ∙ and-left (countsRule s) true h1 in
+      let (h1, h2, h3, h4) = all-hold (countsRule s && b) (storeTerms s) (storeNodes s) r e z in
+      let h = sym (counts-apart s) ∙ and-left (countsRule s) b h1 in
       let even : nodesEven s ≡ true = and-left (nodesEven s) _ h in
       let tc = and-right (nodesEven s) _ h in
       let u : s .nodesUsed ≤ min (count nodeLayout (s .nodeWords)) 65536 = leb-true _ _ (and-right (whole nodeLayout (s .nodeWords)) _ even) in
       let t : s .termsUsed ≤ min (count termLayout (s .termWords)) 65536 = leb-true _ _ (and-right (whole termLayout (s .termWords) && leb (length (s .names)) limit) (leb (s .termsUsed) (min (count termLayout (s .termWords)) limit)) tc) in
-      record { store = record { fits = even-fits _ _ even; few = omega (arith, u); good = true-T _ h3 }; terms = omega (arith, t) }
+      record { store = record { fits = even-fits _ _ even; few = omega (arith, u); good = true-T _ h3 }; terms = omega (arith, t); values = record { fits = count-fits termLayout term-lays (s .termWords) (s .termsUsed) (omega (arith, t)); good = true-T _ h2 } }
 
   pub passed-test : r ≡ true
-  passed-test = let (h1, h2, h3, h4) = all-hold (countsRule s && true) (storeTerms s) (storeNodes s) r e z in h4
+  passed-test = let (h1, h2, h3, h4) = all-hold (countsRule s && b) (storeTerms s) (storeNodes s) r e z in h4
+
+  pub passed-even : b ≡ true
+  passed-even = let (h1, h2, h3, h4) = all-hold (countsRule s && b) (storeTerms s) (storeNodes s) r e z in and-right (countsRule s) b h1
 
 -- ---- what a call leaves ----
 
 module _ (s : Stores) (c : Call) where
-  pub left-refused : {n : ℕ} → input s c ≡ some n → slotsLent c ≡ [] → workLent c ≡ [] → leaves (refused n) s ≡ step s c
-  unfolding leaves step decide refuse
-  left-refused e p q = rw (e, p, q) refl
-
-  pub left-full : {n : ℕ} → input s c ≡ none → room s c ≡ some n → slotsLent c ≡ [] → workLent c ≡ [] → leaves (refused n) s ≡ step s c
-  unfolding leaves step decide refuse
-  left-full e r p q = rw (e, r, p, q) refl
-
-  pub left-done : input s c ≡ none → room s c ≡ none → accept s c ≡ step s c
+  pub step-refused : {n : ℕ} → input s c ≡ some n → step s c ≡ refuse s c n
   unfolding step decide
-  left-done e r = rw (e, r) refl
+  step-refused e = rw e refl
+
+  pub step-full : {n : ℕ} → input s c ≡ none → room s c ≡ some n → step s c ≡ refuse s c n
+  unfolding step decide
+  step-full e r = rw (e, r) refl
+
+  pub step-done : input s c ≡ none → room s c ≡ none → step s c ≡ accept s c
+  unfolding step decide
+  step-done e r = rw (e, r) refl
+
+  pub left-refused : {n : ℕ} → input s c ≡ some n → slotsLent c ≡ [] → workLent c ≡ [] → leaves (refused n) s ≡ step s c
+  unfolding leaves refuse
+  left-refused e p q = rw (step-refused e, p, q) refl
+
+  left-full : {n : ℕ} → input s c ≡ none → room s c ≡ some n → slotsLent c ≡ [] → workLent c ≡ [] → leaves (refused n) s ≡ step s c
+  unfolding leaves refuse
+  left-full e r p q = rw (step-full e r, p, q) refl
 
   -- by the checks' number
-  module _ (r : Bool) (x : Option ℕ) (ev : evenRule c ≡ true) (ar : arguments s c ≡ ask r 4 x) {n : ℕ} (e : n ≡ numbered (ordered s r none)) where
-    asked : input s c ≡ ordered s r x
+  module _ (b r : Bool) (x : Option ℕ) (ev : evenRule c ≡ b) (ar : arguments s c ≡ ask r 4 x) {n : ℕ} (e : n ≡ numbered (ordered s b r none)) where
+    asked : input s c ≡ ordered s b r x
     unfolding input
     asked = rw (ev, ar) refl
 
     pub input-refused : (n ≡ 0 → ⊥) → input s c ≡ some n
-    input-refused h = asked ∙ refused-by (countsRule s && true) (storeTerms s) (storeNodes s) r x e h
+    input-refused h = asked ∙ refused-by (countsRule s && b) (storeTerms s) (storeNodes s) r x e h
 
     pub input-passed : n ≡ 0 → input s c ≡ x
     unfolding ask
-    input-passed z = let (h1, h2, h3, h4) = all-hold (countsRule s && true) (storeTerms s) (storeNodes s) r e z in asked ∙ rw (h1, h2, h3, h4) refl
+    input-passed z = let (h1, h2, h3, h4) = all-hold (countsRule s && b) (storeTerms s) (storeNodes s) r e z in asked ∙ rw (h1, h2, h3, h4) refl
 
 -- A call that builds: what it leaves is what the nodes' growth says.
 module _ (s : Stores) (c : Call) (inp : input s c ≡ none) (rm : room s c ≡ nodeRoom s c) (ac : accept s c ≡ afterBuild s c) (sl : slotsLent c ≡ []) (wl : workLent c ≡ []) where
   grown-by : (b : Bool) → leb (s .nodesUsed + length (newNodes s c)) (capacity nodeLayout (s .nodeWords)) ≡ b → {a : Answer} {w : List ℕ} {u : ℕ}
       → (a, w, u) ≡ grownIf b (s .nodeWords) (s .nodesUsed) (build s c) → leaves a (storeOf (s .names) (s .termWords) (s .termsUsed) w u) ≡ step s c
   unfolding nodeRoom ask grownIf leaves afterBuild addNodes
-  grown-by true q p = rw (ap (λ t. t .0) p, ap (λ t. t .1) p, ap (λ t. t .2) p) (sym ac ∙ left-done s c inp (rm ∙ rw q refl))
+  grown-by true q p = rw (ap (λ t. t .0) p, ap (λ t. t .1) p, ap (λ t. t .2) p) (sym ac ∙ sym (step-done s c inp (rm ∙ rw q refl)))
   grown-by false q p = rw (ap (λ t. t .0) p, ap (λ t. t .1) p, ap (λ t. t .2) p) (left-full s c inp (rm ∙ rw q refl) sl wl)
 
   pub left-grown : {a : Answer} {w : List ℕ} {u : ℕ} → (a, w, u) ≡ grownBy (s .nodeWords) (s .nodesUsed) (build s c)
@@ -130,78 +146,161 @@ module _ (s : Stores) (c : Call) (inp : input s c ≡ none) (rm : room s c ≡ n
   unfolding grownBy
   left-grown p = grown-by _ refl p
 
--- ---- calls on one field, which are refused for it (4) or for a number past its end (5) ----
+-- ---- calls that are refused for a field (4) or by one more test (5 or 6) ----
 
-module _ (s : Stores) (c : Call) (f : Field) (b : Bool) (ev : evenRule c ≡ true) (ar : arguments s c ≡ ask (fieldRule (nodes s) f) 4 (ask b 5 none))
-    (sl : slotsLent c ≡ []) (wl : workLent c ≡ []) {n : ℕ} (e : n ≡ numbered (checked s true f emptyField)) where
-  one : n ≡ numbered (ordered s (fieldRule (nodes s) f) none)
-  one = e ∙ ap numbered (one-field s f)
-
+module _ (s : Stores) (c : Call) (r b : Bool) (d : ℕ) (ev : evenRule c ≡ true) (ar : arguments s c ≡ ask r 4 (ask b d none)) (sl : slotsLent c ≡ [])
+    (wl : workLent c ≡ []) {n : ℕ} (e : n ≡ numbered (ordered s true r none)) where
   field-refused : (n ≡ 0 → ⊥) → leaves (refused n) s ≡ step s c
-  field-refused h = left-refused s c (input-refused s c (fieldRule (nodes s) f) (ask b 5 none) ev ar one h) sl wl
+  field-refused h = left-refused s c (input-refused s c true r (ask b d none) ev ar e h) sl wl
 
-  field-past : n ≡ 0 → b ≡ false → leaves (refused 5) s ≡ step s c
+  field-past : n ≡ 0 → b ≡ false → leaves (refused d) s ≡ step s c
   unfolding ask
-  field-past z h = left-refused s c (input-passed s c (fieldRule (nodes s) f) (ask b 5 none) ev ar one z ∙ rw h refl) sl wl
+  field-past z h = left-refused s c (input-passed s c true r (ask b d none) ev ar e z ∙ rw h refl) sl wl
 
   field-fits : n ≡ 0 → b ≡ true → input s c ≡ none
   unfolding ask
-  field-fits z h = input-passed s c (fieldRule (nodes s) f) (ask b 5 none) ev ar one z ∙ rw h refl
+  field-fits z h = input-passed s c true r (ask b d none) ev ar e z ∙ rw h refl
 
 -- What is asked of a store and a field after the checks.
 pub record Usable (s : Stores) (f : Field) : Type 0 where
   pub store : Store (s .nodeWords) (s .termsUsed) (s .nodesUsed)
   pub terms : s .termsUsed ≤ 65536
+  pub values : TermStore (s .names) (s .termWords) (s .termsUsed)
   pub low : f .node < s .nodesUsed
   pub within : f .len ≤ (nodeAt (nodesIn (s .nodeWords) (s .nodesUsed)) (f .node)) .reach
 
-pub usable : (s : Stores) (f : Field) {n : ℕ} → n ≡ numbered (checked s true f emptyField) → n ≡ 0 → Usable s f
+alone : (s : Stores) (b : Bool) (f : Field) {n : ℕ} → n ≡ numbered (checked s b f emptyField) → n ≡ numbered (ordered s b (fieldRule (nodes s) f) none)
+alone s b f e = e ∙ ap numbered (one-field s b f)
+
+pub usable : (s : Stores) (b : Bool) (f : Field) {n : ℕ} → n ≡ numbered (checked s b f emptyField) → n ≡ 0 → Usable s f
 unfolding nodes
-usable s f e z =
-    let one = e ∙ ap numbered (one-field s f) in
-    let p = passed s (fieldRule (nodes s) f) one z in
-    let (x, y) = field-facts (nodes s) f (true-T _ (passed-test s (fieldRule (nodes s) f) one z)) in
-    record { store = p .store; terms = p .terms; low = omega (arith, x, decode-length nodeLayout (s .nodesUsed) (s .nodeWords)); within = y }
+usable s b f e z =
+    let one = alone s b f e in
+    let p = passed s b (fieldRule (nodes s) f) one z in
+    let (x, y) = field-facts (nodes s) f (true-T _ (passed-test s b (fieldRule (nodes s) f) one z)) in
+    record { store = p .store; terms = p .terms; values = p .values; low = omega (arith, x, decode-length nodeLayout (s .nodesUsed) (s .nodeWords)); within = y }
 
 module _ (s : Stores) (f : Field) (k : ℕ) {n : ℕ} (e : n ≡ numbered (checked s true f emptyField)) where
   -- take
   pub take-refused : (n ≡ 0 → ⊥) → leaves (refused n) s ≡ step s (callTake f k)
   unfolding evenRule arguments slotsLent workLent
-  take-refused h = field-refused s (callTake f k) f (leb k (f .len)) refl refl refl refl e h
+  take-refused h = field-refused s (callTake f k) (fieldRule (nodes s) f) (leb k (f .len)) 5 refl refl refl refl (alone s true f e) h
 
   pub take-past : n ≡ 0 → f .len < k → leaves (refused 5) s ≡ step s (callTake f k)
   unfolding evenRule arguments slotsLent workLent
-  take-past z h = field-past s (callTake f k) f (leb k (f .len)) refl refl refl refl e z (lt-leb k (f .len) h)
+  take-past z h = field-past s (callTake f k) (fieldRule (nodes s) f) (leb k (f .len)) 5 refl refl refl refl (alone s true f e) z (lt-leb k (f .len) h)
 
   pub take-fits : n ≡ 0 → {g : Field} → g ≡ takeField f k → k ≤ f .len → leaves (built g) s ≡ step s (callTake f k)
   unfolding evenRule arguments slotsLent workLent leaves room accept
-  take-fits z q h = rw q (left-done s (callTake f k) (field-fits s (callTake f k) f (leb k (f .len)) refl refl refl refl e z (le-leb k (f .len) h)) refl)
+  take-fits z q h = rw q (sym (step-done s (callTake f k) (field-fits s (callTake f k) (fieldRule (nodes s) f) (leb k (f .len)) 5 refl refl refl refl (alone s true f e) z (le-leb k (f .len) h)) refl))
 
   -- rest
   pub rest-refused : (n ≡ 0 → ⊥) → leaves (refused n) s ≡ step s (callRest f k)
   unfolding evenRule arguments slotsLent workLent
-  rest-refused h = field-refused s (callRest f k) f (leb k (f .len)) refl refl refl refl e h
+  rest-refused h = field-refused s (callRest f k) (fieldRule (nodes s) f) (leb k (f .len)) 5 refl refl refl refl (alone s true f e) h
 
   pub rest-past : n ≡ 0 → f .len < k → leaves (refused 5) s ≡ step s (callRest f k)
   unfolding evenRule arguments slotsLent workLent
-  rest-past z h = field-past s (callRest f k) f (leb k (f .len)) refl refl refl refl e z (lt-leb k (f .len) h)
+  rest-past z h = field-past s (callRest f k) (fieldRule (nodes s) f) (leb k (f .len)) 5 refl refl refl refl (alone s true f e) z (lt-leb k (f .len) h)
 
   pub rest-fits : n ≡ 0 → k ≤ f .len → {a : Answer} {w : List ℕ} {u : ℕ} → (a, w, u) ≡ grownBy (s .nodeWords) (s .nodesUsed) (rest f k (nodesIn (s .nodeWords) (s .nodesUsed)))
       → leaves a (storeOf (s .names) (s .termWords) (s .termsUsed) w u) ≡ step s (callRest f k)
   unfolding evenRule arguments slotsLent workLent room accept build nodes
-  rest-fits z h p = left-grown s (callRest f k) (field-fits s (callRest f k) f (leb k (f .len)) refl refl refl refl e z (le-leb k (f .len) h)) refl refl refl refl p
+  rest-fits z h p = left-grown s (callRest f k) (field-fits s (callRest f k) (fieldRule (nodes s) f) (leb k (f .len)) 5 refl refl refl refl (alone s true f e) z (le-leb k (f .len) h)) refl refl refl refl p
 
 -- range
 module _ (s : Stores) (f : Field) (k m : ℕ) {n : ℕ} (e : n ≡ numbered (checked s true f emptyField)) where
   pub range-refused : (n ≡ 0 → ⊥) → leaves (refused n) s ≡ step s (callRange f k m)
   unfolding evenRule arguments slotsLent workLent
-  range-refused h = field-refused s (callRange f k m) f (leb (k + m) (f .len)) refl refl refl refl e h
+  range-refused h = field-refused s (callRange f k m) (fieldRule (nodes s) f) (leb (k + m) (f .len)) 5 refl refl refl refl (alone s true f e) h
 
   pub range-past : n ≡ 0 → f .len < k + m → leaves (refused 5) s ≡ step s (callRange f k m)
   unfolding evenRule arguments slotsLent workLent
-  range-past z h = field-past s (callRange f k m) f (leb (k + m) (f .len)) refl refl refl refl e z (lt-leb (k + m) (f .len) h)
+  range-past z h = field-past s (callRange f k m) (fieldRule (nodes s) f) (leb (k + m) (f .len)) 5 refl refl refl refl (alone s true f e) z (lt-leb (k + m) (f .len) h)
 
   pub range-fits : n ≡ 0 → k + m ≤ f .len → {a : Answer} {w : List ℕ} {u : ℕ} → (a, w, u) ≡ grownBy (s .nodeWords) (s .nodesUsed) (range f k m (nodesIn (s .nodeWords) (s .nodesUsed)))
       → leaves a (storeOf (s .names) (s .termWords) (s .termsUsed) w u) ≡ step s (callRange f k m)
   unfolding evenRule arguments slotsLent workLent room accept build nodes
-  range-fits z h p = left-grown s (callRange f k m) (field-fits s (callRange f k m) f (leb (k + m) (f .len)) refl refl refl refl e z (le-leb (k + m) (f .len) h)) refl refl refl refl p
+  range-fits z h p = left-grown s (callRange f k m) (field-fits s (callRange f k m) (fieldRule (nodes s) f) (leb (k + m) (f .len)) 5 refl refl refl refl (alone s true f e) z (le-leb (k + m) (f .len) h)) refl refl refl refl p
+
+-- join
+module _ (s : Stores) (f g : Field) {n : ℕ} (e : n ≡ numbered (checked s true f g)) where
+  both : n ≡ numbered (ordered s true (fieldRule (nodes s) f && fieldRule (nodes s) g) none)
+  both = e ∙ ap numbered (two-fields s true f g)
+
+  pub join-refused : (n ≡ 0 → ⊥) → leaves (refused n) s ≡ step s (callJoin f g)
+  unfolding evenRule arguments slotsLent workLent
+  join-refused h = field-refused s (callJoin f g) (fieldRule (nodes s) f && fieldRule (nodes s) g) (leb (f .len + g .len) limit) 6 refl refl refl refl both h
+
+  pub join-long : n ≡ 0 → 65536 < f .len + g .len → leaves (refused 6) s ≡ step s (callJoin f g)
+  unfolding evenRule arguments slotsLent workLent
+  join-long z h = field-past s (callJoin f g) (fieldRule (nodes s) f && fieldRule (nodes s) g) (leb (f .len + g .len) limit) 6 refl refl refl refl both z (lt-leb (f .len + g .len) 65536 h)
+
+  pub join-fits : n ≡ 0 → f .len + g .len ≤ 65536 → {a : Answer} {w : List ℕ} {u : ℕ} → (a, w, u) ≡ grownBy (s .nodeWords) (s .nodesUsed) (join f g (nodesIn (s .nodeWords) (s .nodesUsed)))
+      → leaves a (storeOf (s .names) (s .termWords) (s .termsUsed) w u) ≡ step s (callJoin f g)
+  unfolding evenRule arguments slotsLent workLent room accept build nodes
+  join-fits z h p = left-grown s (callJoin f g) (field-fits s (callJoin f g) (fieldRule (nodes s) f && fieldRule (nodes s) g) (leb (f .len + g .len) limit) 6 refl refl refl refl both z (le-leb (f .len + g .len) 65536 h)) refl refl refl refl p
+
+  -- what is asked of both fields after the checks
+  pub usable-both : n ≡ 0 → Usable s f × Usable s g
+  unfolding nodes
+  usable-both z =
+      let p = passed s true (fieldRule (nodes s) f && fieldRule (nodes s) g) both z in
+      let t = passed-test s true (fieldRule (nodes s) f && fieldRule (nodes s) g) both z in
+      let (x, y) = field-facts (nodes s) f (true-T _ (and-left (fieldRule (nodes s) f) (fieldRule (nodes s) g) t)) in
+      let (v, w) = field-facts (nodes s) g (true-T _ (and-right (fieldRule (nodes s) f) (fieldRule (nodes s) g) t)) in
+      let l = decode-length nodeLayout (s .nodesUsed) (s .nodeWords) in
+      (record { store = p .store; terms = p .terms; values = p .values; low = omega (arith, x, l); within = y }, record { store = p .store; terms = p .terms; values = p .values; low = omega (arith, v, l); within = w })
+
+-- from_runs
+module _ (s : Stores) (w : List ℕ) {b : Bool} (ev : b ≡ whole runLayout w && leb (count runLayout w) 64) {n : ℕ} (e : n ≡ numbered (checked s b emptyField emptyField)) where
+  -- the test of the runs, and of their terms together
+  abbrev inside : Bool
+  inside = runsRule (s .termsUsed) (records runLayout w)
+
+  abbrev short : Bool
+  short = leb (total (records runLayout w)) limit
+
+  none-asked : n ≡ numbered (ordered s b true none)
+  none-asked = e ∙ ap numbered (no-field s b)
+
+  runs-asked : arguments s (callFromRuns w) ≡ ask true 4 (ask inside 5 (ask short 6 none))
+  unfolding arguments ask
+  runs-asked = refl
+
+  runs-even : evenRule (callFromRuns w) ≡ b
+  unfolding evenRule
+  runs-even = sym ev
+
+  runs-input : n ≡ 0 → input s (callFromRuns w) ≡ ask inside 5 (ask short 6 none)
+  runs-input z = input-passed s (callFromRuns w) b true _ runs-even runs-asked none-asked z
+
+  pub runs-refused : (n ≡ 0 → ⊥) → leaves (refused n) s ≡ step s (callFromRuns w)
+  unfolding slotsLent workLent
+  runs-refused h = left-refused s (callFromRuns w) (input-refused s (callFromRuns w) b true _ runs-even runs-asked none-asked h) refl refl
+
+  pub runs-past : n ≡ 0 → inside ≡ false → leaves (refused 5) s ≡ step s (callFromRuns w)
+  unfolding slotsLent workLent ask
+  runs-past z h = left-refused s (callFromRuns w) (runs-input z ∙ rw h refl) refl refl
+
+  pub runs-long : n ≡ 0 → inside ≡ true → {m : ℕ} → m ≡ total (records runLayout w) → 65536 < m → leaves (refused 6) s ≡ step s (callFromRuns w)
+  unfolding slotsLent workLent ask
+  runs-long z h q k = left-refused s (callFromRuns w) (runs-input z ∙ rw (h, lt-leb (total (records runLayout w)) 65536 (omega (arith, q, k))) refl) refl refl
+
+  pub runs-fit : n ≡ 0 → inside ≡ true → {m : ℕ} → m ≡ total (records runLayout w) → m ≤ 65536 → {a : Answer} {v : List ℕ} {u : ℕ}
+      → (a, v, u) ≡ grownBy (s .nodeWords) (s .nodesUsed) (fromRuns (records runLayout w) (nodesIn (s .nodeWords) (s .nodesUsed)))
+      → leaves a (storeOf (s .names) (s .termWords) (s .termsUsed) v u) ≡ step s (callFromRuns w)
+  unfolding slotsLent workLent room accept build nodes ask
+  runs-fit z h q k p =
+      left-grown s (callFromRuns w) (runs-input z ∙ rw (h, le-leb (total (records runLayout w)) 65536 (omega (arith, q, k))) refl) refl refl refl refl p
+
+  -- what is asked of the stores after the checks
+  pub runs-passed : n ≡ 0 → Passed s
+  runs-passed z = passed s b true none-asked z
+
+  pub runs-few : n ≡ 0 → length w ≤ 129
+  unfolding count
+  runs-few z =
+      let t = sym ev ∙ passed-even s b true none-asked z in
+      let h : length w / 2 ≤ 64 = leb-true _ _ (and-right (whole runLayout w) (leb (count runLayout w) 64) t) in
+      omega arith

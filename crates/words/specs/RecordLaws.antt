@@ -9,16 +9,16 @@ use lib.ListN.{length, getD, set, take, drop}
 use lib.Seq.{getD-take, getD-drop, sets, sets-eq}
 use Rattle.term_spec.specs.Words.{Layout, recordAt, encode, write}
 use Rattle.term_spec.specs.WordsLaws.{Lays, term-lays}
-use Rattle.term_spec.specs.Term.{Term as SpecTerm, termOf, termLayout}
+use Rattle.term_spec.specs.Term.{Term as SpecTerm, termOf, termLayout, Run as SpecRun, runOf, runLayout}
 use Rattle.view_spec.specs.Node.{Node as SpecNode, nodeOf, nodeLayout}
 use Rattle.view_spec.specs.NodeLaws.{node-lays}
 
 -- Word k of record i, for any width.
-word-at : (width : ℕ) (w : List ℕ) (i k : ℕ) → k < width → getD (take width (drop (i * width) w)) k 0 ≡ getD w (i * width + k) 0
+pub word-at : (width : ℕ) (w : List ℕ) (i k : ℕ) → k < width → getD (take width (drop (i * width) w)) k 0 ≡ getD w (i * width + k) 0
 word-at width w i k lt = getD-take width (drop (i * width) w) k 0 lt ∙ getD-drop (i * width) w k 0
 
 -- Its first word.
-first-at : (width : ℕ) (w : List ℕ) (i : ℕ) → 0 < width → getD (take width (drop (i * width) w)) 0 0 ≡ getD w (i * width) 0
+pub first-at : (width : ℕ) (w : List ℕ) (i : ℕ) → 0 < width → getD (take width (drop (i * width) w)) 0 0 ≡ getD w (i * width) 0
 first-at width w i lt = word-at width w i 0 lt ∙ ap (λ n. getD w n 0) (add-zero (i * width))
 
 -- A record's words set one after another are the record written, for any layout.
@@ -66,3 +66,10 @@ module _ (w : List ℕ) (i : ℕ) where
       let e : set (set (set (set (set (set w (i * 6) kind) (i * 6 + 1) a) (i * 6 + 2) b) (i * 6 + 3) c) (i * 6 + 4) height) (i * 6 + 5) reach
       ≡ sets w (i * 6) (kind ∷ a ∷ b ∷ c ∷ height ∷ reach ∷ []) = simp towards-suc in
       e ∙ one-written nodeLayout node-lays w i (record { kind = kind; a = a; b = b; c = c; height = height; reach = reach }) h
+
+  pub run-read : {start len : ℕ} → start ≡ getD w (i * 2) 0 → len ≡ getD w (i * 2 + 1) 0 → _≡_ {A = SpecRun} (record { start = start; len = len }) (recordAt runLayout w i)
+  unfolding recordAt runOf
+  run-read p q t = record {
+    start = (p ∙ sym (first-at 2 w i (omega arith))) t;
+    len = (q ∙ sym (word-at 2 w i 1 (omega arith))) t;
+  }

@@ -1,9 +1,10 @@
 -- The structs of this crate as the specification's records.
 use Prim.Native.Nat.{_<_, _^_}
-use Rattle.term_spec.specs.Term.{Term as SpecTerm}
+use Rattle.term_spec.specs.Term.{Term as SpecTerm, Run as SpecRun}
 use Rattle.view_spec.specs.Node.{Node as SpecNode}
 use Rattle.words.specs.declared.Term.{Term}
 use Rattle.words.specs.declared.Node.{Node}
+use Rattle.words.specs.declared.Run.{Run}
 
 -- A term of the code, as the specification has it.
 abbrev pub asTerm : Term → SpecTerm
@@ -28,3 +29,7 @@ pub record SmallNode (n : Node) : Type 0 where
   pub c : n .c < 2 ^ 32
   pub height : n .height < 2 ^ 32
   pub reach : n .reach < 2 ^ 32
+
+-- A run of the code, as the specification has it.
+abbrev pub asRun : Run → SpecRun
+asRun r = record { start = r .start; len = r .len }

@@ -1,12 +1,12 @@
 // Records of words in lent slices, as structs by value. `word` and `set_word` alone see words and casts.
 ghost use mathlib.Core.Path.{_≡_};
 ghost use mathlib.Core.List.{[], _∷_};
-ghost use Prim.Native.Nat.{ℕ, _+_, _*_, _<_, _≤_, _^_};
+ghost use Prim.Native.Nat.{_+_, _*_, _<_, _≤_, _^_};
 ghost use lib.ListN.{length, getD, set};
 ghost use Rattle.term_spec.specs.Words.{recordAt, write};
-ghost use Rattle.term_spec.specs.Term.{termLayout};
+ghost use Rattle.term_spec.specs.Term.{termLayout, runLayout};
 ghost use Rattle.view_spec.specs.Node.{nodeLayout};
-ghost use Rattle.words.specs.Records.{asTerm, Small, asNode, SmallNode};
+ghost use Rattle.words.specs.Records.{asTerm, Small, asNode, SmallNode, asRun};
 
 // One term, its words widened.
 pub struct Term {
@@ -26,10 +26,18 @@ pub struct Node {
     pub reach: usize,
 }
 
-// The widths of a term record and of a node record, in words.
+// A run of terms: its start and its length, widened.
+pub struct Run {
+    pub start: usize,
+    pub len: usize,
+}
+
+// The widths of a term record, of a node record and of a run, in words.
 pub const TERM_WIDTH: usize = 4;
 
 pub const NODE_WIDTH: usize = 6;
+
+pub const RUN_WIDTH: usize = 2;
 
 fn wide(x: u32) -> usize
     ensures { λ r. ⌜ r ≡ x ⌝ }
@@ -107,4 +115,16 @@ pub fn put_node(nodes: &mut [u32], i: usize, n: Node)
     set_word(nodes, p + 3, n.c);
     set_word(nodes, p + 4, n.height);
     set_word(nodes, p + 5, n.reach);
+}
+
+// Run i of a list of runs.
+pub fn get_run(runs: &[u32], i: usize) -> Run
+    requires { ⌜ i * 2 + 2 ≤ length (now runs) ⌝ }
+    ensures { λ r. ⌜ asRun r ≡ recordAt runLayout (now (runs .entry)) i ⌝ }
+{
+    let p = i * RUN_WIDTH;
+    Run {
+        start: word(runs, p),
+        len: word(runs, p + 1),
+    }
 }

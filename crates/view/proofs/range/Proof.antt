@@ -32,7 +32,7 @@ unfolding answerOf
 returns-3 c = range-past _ _ _ _ (c .before .before .before .before .before .check .ensures) (c .before .before .before .before .if1 .left) (search needs)
 
 dropped-requires : tie.Need-dropped-requires
-dropped-requires c κs = let u = usable _ _ (c .before .before .before .before .before .before .before .check .ensures) (c .before .before .before .before .before .before .if1 .left) in ((u .store, u .terms), (u .low, u .within, search needs))
+dropped-requires c κs = let u = usable _ _ _ (c .before .before .before .before .before .before .before .check .ensures) (c .before .before .before .before .before .before .if1 .left) in ((u .store, u .terms), (u .low, u .within, search needs))
 
 enum-known-g : tie.Need-enum-known-g
 enum-known-g c = search needs

@@ -23,7 +23,7 @@ unfolding answerOf
 returns-2 c = rest-past _ _ _ (c .before .before .before .check .ensures) (c .before .before .if1 .left) (c .if2 .taken)
 
 dropped-requires : tie.Need-dropped-requires
-dropped-requires c κs = let u = usable _ _ (c .before .before .before .before .before .check .ensures) (c .before .before .before .before .if1 .left) in ((u .store, u .terms), (u .low, u .within, search needs))
+dropped-requires c κs = let u = usable _ _ _ (c .before .before .before .before .before .check .ensures) (c .before .before .before .before .if1 .left) in ((u .store, u .terms), (u .low, u .within, search needs))
 
 same-length-3 : tie.Need-same-length-3
 same-length-3 c = search needs

@@ -1,0 +1,4 @@
+pub mod Chain
+pub mod RunLaws
+pub mod FuseLaws
+pub mod BuildLaws

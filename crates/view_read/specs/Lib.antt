@@ -1,0 +1,4 @@
+pub mod Read
+pub mod CompareLaws
+pub mod PlaceLaws
+pub mod FlatLaws
