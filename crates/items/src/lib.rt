@@ -1,0 +1,58 @@
+// Records of patterns and bindings in lent slices, as structs by value.
+ghost use mathlib.Core.Path.{_≡_};
+ghost use Prim.Native.Nat.{_+_, _*_, _≤_};
+ghost use lib.ListN.{length};
+ghost use Rattle.term_spec.specs.Words.{recordAt};
+ghost use Rattle.match_spec.specs.Pattern.{itemLayout, bindingLayout};
+ghost use Rattle.items.specs.Records.{asItem, asBinding};
+
+// One record of a pattern, its words widened.
+pub struct Item {
+    pub kind: usize,
+    pub a: usize,
+    pub b: usize,
+    pub c: usize,
+}
+
+// One binding, its words widened.
+pub struct Binding {
+    pub kind: usize,
+    pub offset: usize,
+    pub size: usize,
+    pub start: usize,
+    pub len: usize,
+}
+
+// The widths of a pattern record and of a binding, in words.
+pub const ITEM_WIDTH: usize = 4;
+
+pub const BINDING_WIDTH: usize = 5;
+
+// Record i of a pattern.
+pub fn get_item(pattern: &[u32], i: usize) -> Item
+    requires { ⌜ i * 4 + 4 ≤ length (now pattern) ⌝ }
+    ensures { λ r. ⌜ asItem r ≡ recordAt itemLayout (now (pattern .entry)) i ⌝ }
+{
+    let p = i * ITEM_WIDTH;
+    Item {
+        kind: words::word(pattern, p),
+        a: words::word(pattern, p + 1),
+        b: words::word(pattern, p + 2),
+        c: words::word(pattern, p + 3),
+    }
+}
+
+// Binding i.
+pub fn get_binding(bindings: &[u32], i: usize) -> Binding
+    requires { ⌜ i * 5 + 5 ≤ length (now bindings) ⌝ }
+    ensures { λ r. ⌜ asBinding r ≡ recordAt bindingLayout (now (bindings .entry)) i ⌝ }
+{
+    let p = i * BINDING_WIDTH;
+    Binding {
+        kind: words::word(bindings, p),
+        offset: words::word(bindings, p + 1),
+        size: words::word(bindings, p + 2),
+        start: words::word(bindings, p + 3),
+        len: words::word(bindings, p + 4),
+    }
+}

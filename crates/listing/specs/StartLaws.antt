@@ -1,0 +1,46 @@
+-- The entries of the start, as the loop that copies them leaves them.
+use mathlib.Core.Path.{_≡_, refl, ap, ap₂, sym, _∙_}
+use mathlib.Core.List.{List, [], _∷_, _++_, map, map-append}
+use lib.ListN.{length, getD, set, length-set}
+use Prim.Native.Nat.{ℕ, _+_, _*_, _/_, _<_, _≤_}
+use native.Mathlib.Numerals.{add-one}
+use native.Mathlib.Omega.{arith}
+use Rattle.term_spec.specs.Words.{decode, recordAt, count, records}
+use Rattle.term_spec.specs.WordsLaws.{decode-snoc}
+use Rattle.term_spec.specs.Term.{Run, runLayout}
+use Rattle.match_spec.specs.Pattern.{bindingLayout, boundRun}
+use Rattle.items.specs.ItemLaws.{binding-read}
+use Rattle.steps.specs.ArrayLaws.{entries-more}
+
+-- The runs of the first i bindings are the first i entries.
+pub record Copied (bindings binds : List ℕ) (i : ℕ) : Type 0 where
+  pub below : i ≤ length bindings / 5
+  pub room : length binds ≡ 128
+  pub same : decode runLayout i binds ≡ map boundRun (decode bindingLayout i bindings)
+
+pub copied-none : (bindings binds : List ℕ) → length binds ≡ 128 → Copied bindings binds 0
+unfolding decode
+copied-none bindings binds h = record { below = omega arith; room = h; same = refl }
+
+-- a binding's run is its last two words
+bound-read : (w : List ℕ) (i : ℕ) → _≡_ {A = Run} (record { start = getD w (5 * i + 3) 0; len = getD w (5 * i + 4) 0 }) (boundRun (recordAt bindingLayout w i))
+bound-read w i =
+    let e : 5 * i ≡ i * 5 = omega arith in
+    rw e (ap boundRun (binding-read w i refl refl refl refl refl))
+
+module _ (bindings binds : List ℕ) (i : ℕ) (c : Copied bindings binds i) where
+  pub copied-more : i < length bindings / 5 → length bindings ≤ 324
+      → Copied bindings (set (set binds (2 * i) (getD bindings (5 * i + 3) 0)) (2 * i + 1) (getD bindings (5 * i + 4) 0)) (i + 1)
+  copied-more h few = record {
+    below = omega arith;
+    room = simp length-set (c .room);
+    same =
+        entries-more binds i _ _ (omega (arith, c .room))
+        ∙ ap₂ (λ x y. x ++ (y ∷ [])) (c .same) (bound-read bindings i)
+        ∙ sym (map-append boundRun (decode bindingLayout i bindings) (recordAt bindingLayout bindings i ∷ []))
+        ∙ ap (map boundRun) (sym (decode-snoc bindingLayout i bindings) ∙ ap (λ k. decode bindingLayout k bindings) (sym (add-one i)));
+  }
+
+  pub copied-all : length bindings / 5 ≤ i → decode runLayout (length bindings / 5) binds ≡ map boundRun (records bindingLayout bindings)
+  unfolding records count
+  copied-all h = let e : length bindings / 5 ≡ i = omega (arith, c .below) in rw e (c .same)

@@ -1,0 +1,254 @@
+// Listing and first match as calls: the checks, the settled field, the walk, the answer. From matcher.rs
+// (`match_pattern_with_bindings_candidates`, `match_pattern_first`); refusals but 10 and 11 are the port's.
+use matcher::Tally;
+use steps::State;
+use view::Field;
+use view_read::Settled;
+use words::Run;
+ghost use mathlib.Core.Path.{_≡_};
+ghost use mathlib.Core.List.{List, [], _∷_, map};
+ghost use mathlib.Core.Bool.{_&&_};
+ghost use Prim.Native.Nat.{_+_, _≤_};
+ghost use lib.Dec.{leb};
+ghost use lib.ListN.{length};
+ghost use Rattle.term_spec.specs.Words.{whole, count, records};
+ghost use Rattle.term_spec.specs.Term.{Run as SpecRun};
+ghost use Rattle.match_spec.specs.Pattern.{itemLayout, bindingLayout, boundRun};
+ghost use Rattle.match_spec.specs.Answer.{allOfThem, headOnly, slotsIn, numberOf};
+ghost use Rattle.calls_spec.specs.Step.{callMatch, step, matchAnswer};
+ghost use Rattle.view.specs.Check.{asField, storeOf, numbered};
+ghost use Rattle.words.specs.Records.{asRun};
+ghost use Rattle.steps.specs.State.{levelsOf, entriesOf};
+ghost use Rattle.matcher.specs.Ready.{statusOf, wantedOf};
+ghost use Rattle.listing.specs.Match.{matchedOf, leavesSlots, requestOf, refusedTo8};
+
+// What a listing answers: all candidates, with their count and the number of names; the slots are full and a further candidate exists; a
+// refusal.
+pub enum Matched {
+    Listed(usize, usize),
+    More(usize, usize),
+    Refused(usize),
+}
+
+// 1 Uneven, of pattern and bindings: whole, and at most 256 pattern records.
+fn request_even(pattern: &[u32], bindings: &[u32]) -> bool
+    ensures { λ r. ⌜ r ≡ whole itemLayout (now (pattern .entry)) && leb (count itemLayout (now (pattern .entry))) 256 && whole bindingLayout (now (bindings .entry)) ⌝ }
+{
+    if pattern.len() % items::ITEM_WIDTH != 0 {
+        return false;
+    }
+    if 256 < pattern.len() / items::ITEM_WIDTH {
+        return false;
+    }
+    bindings.len() % items::BINDING_WIDTH == 0
+}
+
+// 0, or the first of 1 to 8 that applies.
+fn refusal(
+    names: &[u8],
+    terms: &[u32],
+    terms_used: usize,
+    nodes: &[u32],
+    nodes_used: usize,
+    f: Field,
+    pattern: &[u32],
+    bindings: &[u32],
+) -> usize
+    ensures { λ r. ⌜ r ≡ numbered (refusedTo8 (storeOf (now (names .entry)) (now (terms .entry)) «terms_used» (now (nodes .entry)) «nodes_used») (asField f) (now (pattern .entry)) (now (bindings .entry))) ⌝ }
+{
+    let number = view::check(
+        names,
+        terms,
+        terms_used,
+        nodes,
+        nodes_used,
+        request_even(pattern, bindings),
+        f,
+        Field::EMPTY,
+    );
+    if number != 0 {
+        return number;
+    }
+    if !pattern::bindings_inside(bindings, terms_used) {
+        return 5;
+    }
+    if !pattern::pattern_ok(names, pattern) {
+        return 7;
+    }
+    if !pattern::bindings_ok(names, bindings) {
+        return 8;
+    }
+    0
+}
+
+// Where the walk starts: the settled run, and the start's entries.
+fn start(bindings: &[u32], run: Run) -> State
+    requires { ⌜ length (now bindings) ≤ 324 ⌝ }
+    ensures { λ r. ⌜ (levelsOf r ≡ asRun run ∷ []) × (entriesOf r ≡ map boundRun (records bindingLayout (now (bindings .entry)))) × (r .depth ≡ 0) ⌝ }
+{
+    let n = bindings.len() / items::BINDING_WIDTH;
+    let mut binds = [0u32; 128];
+    let mut i = 0;
+    while i < n {
+        binds[2 * i] = bindings[5 * i + 3];
+        binds[2 * i + 1] = bindings[5 * i + 4];
+        i += 1;
+    }
+    State {
+        start: run.start,
+        len: run.len,
+        depth: 0,
+        bound: n,
+        levels: [0u32; 64],
+        binds,
+    }
+}
+
+// The slots that fit whole; with no names there is one, of no words.
+fn slots_in(words: usize, names: usize) -> usize
+    requires { ⌜ names ≤ 64 ⌝ }
+    ensures { λ r. ⌜ r ≡ slotsIn words names ⌝ }
+{
+    if names == 0 {
+        return 1;
+    }
+    words / (2 * names)
+}
+
+// The answer of a walk that has ended.
+fn answer(t: Tally, names: usize) -> Matched
+    ensures { λ r. ⌜ ((w : List (List SpecRun)) → length w ≡ t .count → matchedOf r ≡ matchAnswer (numberOf (statusOf (t .stop)) w) (t .count) names) ⌝ }
+{
+    if t.stop == 2 {
+        return Matched::More(t.count, names);
+    }
+    if 2 < t.stop {
+        return Matched::Refused(11);
+    }
+    if t.stop == 0 {
+        if t.count == 0 {
+            return Matched::Refused(10);
+        }
+    }
+    Matched::Listed(t.count, names)
+}
+
+// The candidates of a pattern over a field, or the head of their list.
+fn list(
+    names: &[u8],
+    terms: &mut [u32],
+    terms_used: &mut usize,
+    nodes: &[u32],
+    nodes_used: usize,
+    f: Field,
+    pattern: &[u32],
+    bindings: &[u32],
+    slots: &mut [u32],
+    head: bool,
+) -> Matched
+    ensures { λ r. ⌜ leavesSlots (matchedOf r) (storeOf (now (names .entry)) (now (terms .exit)) (now («terms_used» .exit)) (now (nodes .entry)) «nodes_used») (now (slots .exit)) ≡ step (storeOf (now (names .entry)) (now (terms .entry)) (now («terms_used» .entry)) (now (nodes .entry)) «nodes_used») (callMatch (wantedOf head) (requestOf (asField f) (now (pattern .entry)) (now (bindings .entry)) (now (slots .entry)))) ⌝ }
+{
+    let number = refusal(
+        names,
+        terms,
+        *terms_used,
+        nodes,
+        nodes_used,
+        f,
+        pattern,
+        bindings,
+    );
+    if number != 0 {
+        return Matched::Refused(number);
+    }
+    if 64 < bindings.len() / items::BINDING_WIDTH {
+        return Matched::Refused(9);
+    }
+    let mut numbers = [0u32; 256];
+    let entries = pattern::number_names(names, pattern, bindings, &mut numbers);
+    if 64 < entries {
+        return Matched::Refused(9);
+    }
+    match view_read::settle(terms, terms_used, nodes, nodes_used, f) {
+        Settled::Refused(n) => Matched::Refused(n),
+        Settled::At(run) => {
+            let cap = slots_in(slots.len(), entries);
+            let none = Tally { stop: 0, count: 0 };
+            let tally = matcher::walk(
+                names,
+                terms,
+                *terms_used,
+                pattern,
+                &numbers,
+                0,
+                entries,
+                start(bindings, run),
+                cap,
+                head,
+                false,
+                0,
+                slots,
+                none,
+            );
+            answer(tally, entries)
+        }
+    }
+}
+
+// Lists the candidates of a pattern over a field, from starting bindings, into slots.
+pub fn match_pattern_with_bindings_candidates(
+    names: &[u8],
+    terms: &mut [u32],
+    terms_used: &mut usize,
+    nodes: &[u32],
+    nodes_used: usize,
+    f: Field,
+    pattern: &[u32],
+    bindings: &[u32],
+    slots: &mut [u32],
+) -> Matched
+    ensures { λ r. ⌜ leavesSlots (matchedOf r) (storeOf (now (names .entry)) (now (terms .exit)) (now («terms_used» .exit)) (now (nodes .entry)) «nodes_used») (now (slots .exit)) ≡ step (storeOf (now (names .entry)) (now (terms .entry)) (now («terms_used» .entry)) (now (nodes .entry)) «nodes_used») (callMatch allOfThem (requestOf (asField f) (now (pattern .entry)) (now (bindings .entry)) (now (slots .entry)))) ⌝ }
+{
+    let head = false;
+    list(
+        names,
+        terms,
+        terms_used,
+        nodes,
+        nodes_used,
+        f,
+        pattern,
+        bindings,
+        slots,
+        head,
+    )
+}
+
+// The first candidate alone: the head of that list.
+pub fn match_pattern_first(
+    names: &[u8],
+    terms: &mut [u32],
+    terms_used: &mut usize,
+    nodes: &[u32],
+    nodes_used: usize,
+    f: Field,
+    pattern: &[u32],
+    bindings: &[u32],
+    slots: &mut [u32],
+) -> Matched
+    ensures { λ r. ⌜ leavesSlots (matchedOf r) (storeOf (now (names .entry)) (now (terms .exit)) (now («terms_used» .exit)) (now (nodes .entry)) «nodes_used») (now (slots .exit)) ≡ step (storeOf (now (names .entry)) (now (terms .entry)) (now («terms_used» .entry)) (now (nodes .entry)) «nodes_used») (callMatch headOnly (requestOf (asField f) (now (pattern .entry)) (now (bindings .entry)) (now (slots .entry)))) ⌝ }
+{
+    let head = true;
+    list(
+        names,
+        terms,
+        terms_used,
+        nodes,
+        nodes_used,
+        f,
+        pattern,
+        bindings,
+        slots,
+        head,
+    )
+}

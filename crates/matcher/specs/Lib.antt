@@ -1,0 +1,4 @@
+pub mod Ready
+pub mod EmitLaws
+pub mod WalkedLaws
+pub mod FoldLaws

@@ -1,0 +1,374 @@
+-- Laws of the walk in code, one for each exit: what is taken in of the walk's events, and where the walk may go on.
+use mathlib.Core.Path.{_≡_, refl, ap, ap₂, sym, _∙_, subst}
+use mathlib.Core.List.{List, [], _∷_, _++_, map, append-nil, head-eq-of-cons-eq}
+use mathlib.Core.Bool.{Bool, true, false}
+use lib.Dec.{T}
+use lib.ListN.{length, getD, drop, length-map, length-append}
+use Prim.Native.Nat.{ℕ, suc, zero, _+_, _-_, _/_, _<_, _≤_, max}
+use native.Mathlib.Numerals.{add-one}
+use native.Mathlib.Omega.{arith}
+use Rattle.term_spec.specs.ListLaws.{All, all-snoc, part-length}
+use Rattle.term_spec.specs.Words.{decode, recordAt, count}
+use Rattle.term_spec.specs.WordsLaws.{decode-length}
+use Rattle.term_spec.specs.Term.{Term, Run, part, termLayout, runLayout}
+use Rattle.term_spec.specs.Value.{values, canon}
+use Rattle.term_spec.specs.TermLaws.{Valid, valid-terms, values-length}
+use Rattle.match_spec.specs.Element.{Element, Level, canonE}
+use Rattle.match_spec.specs.Pattern.{Item, itemLayout, elementK, element, itemRuleK}
+use Rattle.match_spec.specs.Walk.{Event, hit, tried, reached, Reading, runs, cellsOf, rigidFits, ends, upto, when, ifEmpty, finishWalk, walk}
+use Rattle.match_spec.specs.Answer.{going, called, Progress, Wanted, absorbOne, absorb}
+use Rattle.match_spec.specs.AnswerLaws.{absorb-done, absorb-full, absorb-called}
+use Rattle.match_spec.specs.RunLaws.{Inside}
+use Rattle.steps.specs.Turn.{next, turn, oneSplit, onward}
+use Rattle.steps.specs.TurnLaws.{walk-turn, Sound, sound-most, Stays, Kept, turn-kept}
+use Rattle.steps.specs.PatternAtLaws.{pattern-at, pattern-end, pattern-item}
+use Rattle.steps.specs.State.{stackOf, levelOf, levelsOf, entriesOf, turnAs, Stands, renamed, coded, Fine}
+use Rattle.steps.specs.declared.State.{State}
+use Rattle.steps.specs.declared.What.{What}
+use Rattle.steps.specs.declared.What.the-variants.{Stop, Next, Split, Call}
+use Rattle.matcher.specs.Ready.{patternIn, statusOf, Ready}
+
+-- ---- a listing that has stopped takes in nothing ----
+
+pub stopped : {E : Type 0} (q : Wanted) (cap : ℕ) (l : List (Event E)) (w : List E) (n : ℕ) → (n ≡ 0 → ⊥)
+    → absorb q cap l (record { written = w; status = statusOf n }) ≡ record { written = w; status = statusOf n }
+unfolding statusOf
+stopped q cap l w zero h = absurd (h refl)
+stopped q cap l w (suc zero) h = absorb-done q cap l w
+stopped q cap l w (suc (suc zero)) h = absorb-full q cap l w
+stopped q cap l w (suc (suc (suc k))) h = absorb-called q cap l w
+
+-- nothing is taken in
+pub none-taken : {E : Type 0} (q : Wanted) (cap : ℕ) (o : Progress E) → absorb q cap [] o ≡ o
+unfolding absorb
+none-taken q cap o = refl
+
+-- a split that is gone into writes nothing by itself
+pub tried-taken : {E : Type 0} (q : Wanted) (cap : ℕ) (l : List (Event E)) (w : List E)
+    → absorb q cap (tried ∷ l) (record { written = w; status = going }) ≡ absorb q cap l (record { written = w; status = going })
+unfolding absorb absorbOne
+tried-taken q cap l w = refl
+
+-- a Call or Block stops
+pub call-taken : {E : Type 0} (q : Wanted) (cap : ℕ) (w : List E)
+    → absorb q cap (reached ∷ []) (record { written = w; status = going }) ≡ record { written = w; status = called }
+unfolding absorb absorbOne
+call-taken q cap w = refl
+
+-- ---- splits from the k-th on ----
+
+-- c of f's lists from the k-th on.
+unfoldable pub splitsFrom : {B : Type 0} → (ℕ → List B) → ℕ → ℕ → List B
+splitsFrom f k zero = []
+splitsFrom f k (suc c) = f k ++ splitsFrom f (suc k) c
+
+from-shifted : {B : Type 0} (f : ℕ → List B) (k c : ℕ) → splitsFrom (λ j. f (suc j)) k c ≡ splitsFrom f (suc k) c
+unfolding splitsFrom
+from-shifted f k zero = refl
+from-shifted f k (suc c) = ap (f (suc k) ++_) (from-shifted f (suc k) c)
+
+pub upto-from : {B : Type 0} (f : ℕ → List B) (m : ℕ) → upto f m ≡ splitsFrom f 0 (suc m)
+unfolding upto splitsFrom
+upto-from f zero = sym (append-nil (f 0))
+upto-from f (suc m) = ap (f 0 ++_) (upto-from (λ j. f (suc j)) m ∙ from-shifted f 0 (suc m))
+
+pub from-next : {B : Type 0} (f : ℕ → List B) (k m : ℕ) → k ≤ m → splitsFrom f k (suc m - k) ≡ f k ++ splitsFrom f (k + 1) (suc m - (k + 1))
+unfolding splitsFrom
+from-next f k m h =
+    let e : suc m - k ≡ suc (suc m - (k + 1)) = omega arith in
+    ap (splitsFrom f k) e ∙ ap (λ j. f k ++ splitsFrom f j (suc m - (k + 1))) (sym (add-one k))
+
+pub from-end : {B : Type 0} (f : ℕ → List B) (k m : ℕ) → m < k → splitsFrom f k (suc m - k) ≡ []
+unfolding splitsFrom
+from-end f k m h = let e : suc m - k ≡ 0 = omega arith in ap (splitsFrom f k) e
+
+-- ---- what the record asks of the state ----
+
+fine-by : (k : ℕ) (names : List ℕ) (t : Item) (x : ℕ) (p : List (Element ℕ)) (d b m : ℕ) → m ≤ 64 → Sound (renamed x (canonE (elementK k names t)) ∷ p) d b m → Fine k x d b
+unfolding elementK canonE renamed Sound Fine
+fine-by zero names t x p d b m l h = tt
+fine-by (suc zero) names t x p d b m l h = tt
+fine-by (suc (suc zero)) names t x p d b m l h = tt
+fine-by (suc (suc (suc zero))) names t x p d b m l h = h .0
+fine-by (suc (suc (suc (suc zero)))) names t x p zero b m l h = absurd h
+fine-by (suc (suc (suc (suc zero)))) names t x p (suc d) b m l h = omega arith
+fine-by (suc (suc (suc (suc (suc zero))))) names t x p d b m l h = (h .0, omega (arith, sound-most p d (max b (suc x)) m (h .1)))
+fine-by (suc (suc (suc (suc (suc (suc zero)))))) names t x p d b m l h = (h .0, omega (arith, sound-most p d (max b (suc x)) m (h .1)))
+fine-by (suc (suc (suc (suc (suc (suc (suc zero))))))) names t x p d b m l h = (h .0, omega (arith, sound-most p d (max b (suc x)) m (h .1)))
+fine-by (suc (suc (suc (suc (suc (suc (suc (suc k)))))))) names t x p d b m l h = tt
+
+pub sound-fine : (names : List ℕ) (t : Item) (x : ℕ) (p : List (Element ℕ)) (d b m : ℕ) → m ≤ 64 → Sound (coded names t x ∷ p) d b m → Fine (t .kind) x d b
+unfolding coded element
+sound-fine names t x p d b m l h = fine-by (t .kind) names t x p d b m l h
+
+-- ---- what the cells of a run inside the terms are ----
+
+cells-size : (names : List ℕ) (ts : List Term) (r : Run) → Inside (length ts) r → length (cellsOf names ts r) ≡ r .len
+unfolding cellsOf
+cells-size names ts r h =
+    length-map (part (values names ts) r) canon ∙ part-length (values names ts) (r .start) (r .len) (omega (arith, values-length names ts))
+
+empty-cells : (c : Level) → length c ≡ 0 → c ≡ []
+empty-cells [] h = refl
+empty-cells (v ∷ c) h = absurd (omega arith)
+
+-- ---- the end of the pattern ----
+
+module _ (names : List ℕ) (ts : List Term) (m : ℕ) (r : Run) (env : List Run) where
+  open-end : (st : List Run) → length st ≡ 0 → walk (runs names ts) [] (r ∷ st) env ≡ ifEmpty (cellsOf names ts r) (hit env ∷ [])
+  unfolding walk finishWalk
+  open-end [] e = refl
+  open-end (q ∷ st) e = absurd (omega arith)
+
+  more-left : (c : Level) (l : List (Event (List Run))) → 1 ≤ length c → ifEmpty c l ≡ []
+  unfolding ifEmpty
+  more-left [] l h = absurd (omega arith)
+  more-left (v ∷ c) l h = refl
+
+  none-left : (c : Level) (l : List (Event (List Run))) → length c ≡ 0 → ifEmpty c l ≡ l
+  unfolding ifEmpty
+  none-left [] l h = refl
+  none-left (v ∷ c) l h = absurd (omega arith)
+
+  module _ (p : List (Element ℕ)) (e : p ≡ []) (st : List Run) (s : Stays (length ts) p m r st env) where
+    end-around : length st ≡ 0
+    unfolding Sound
+    end-around = (subst (λ z. Sound z (length st) (length env) m) e (s .sound)) .0
+
+    pub end-all : length env ≡ m
+    unfolding Sound
+    end-all = (subst (λ z. Sound z (length st) (length env) m) e (s .sound)) .1
+
+    pub end-more : (r .len ≡ 0 → ⊥) → walk (runs names ts) p (r ∷ st) env ≡ []
+    end-more h = ap (λ z. walk (runs names ts) z (r ∷ st) env) e ∙ open-end st end-around
+        ∙ more-left (cellsOf names ts r) _ (omega (arith, cells-size names ts r (s .level-in)))
+
+    pub end-hit : r .len ≡ 0 → walk (runs names ts) p (r ∷ st) env ≡ hit env ∷ []
+    end-hit h = ap (λ z. walk (runs names ts) z (r ∷ st) env) e ∙ open-end st end-around
+        ∙ none-left (cellsOf names ts r) _ (cells-size names ts r (s .level-in) ∙ h)
+
+-- ---- one split ----
+
+module _ (names : List ℕ) (ts : List Term) (p : List (Element ℕ)) (r : Run) (st env : List Run) (k : ℕ) where
+  abbrev ahead : Run
+  ahead = record { start = r .start + k; len = r .len - k }
+
+  pub split-not : rigidFits p zero (map (cellsOf names ts) env) (cellsOf names ts ahead) ≡ false → oneSplit (runs names ts) p r st env k ≡ []
+  unfolding oneSplit when
+  split-not e = rw e refl
+
+  pub split-into : rigidFits p zero (map (cellsOf names ts) env) (cellsOf names ts ahead) ≡ true
+      → oneSplit (runs names ts) p r st env k ≡ tried ∷ walk (runs names ts) p (ahead ∷ st) (env ++ (record { start = r .start; len = k } ∷ []))
+  unfolding oneSplit when
+  split-into e = rw e refl
+
+-- ---- where the walk goes on ----
+
+stack-size : (d : ℕ) (w : List ℕ) → length (stackOf d w) ≡ d
+unfolding stackOf
+stack-size zero w = refl
+stack-size (suc d) w = ap suc (stack-size d w)
+
+module _ {names terms : List ℕ} {used : ℕ} {pattern numbers : List ℕ} {p m : ℕ} {s : State} {cap : ℕ} {slots : List ℕ}
+    (y : Ready names terms used pattern numbers p m s cap slots) where
+  abbrev TS : List Term
+  TS = decode termLayout used terms
+
+  abbrev RD : Reading Run
+  RD = runs names TS
+
+  size-ts : length TS ≡ used
+  size-ts = decode-length termLayout used terms
+
+  valid-ts : Valid TS
+  valid-ts = valid-terms names TS (y .store .good)
+
+  pub ready-stands : Stands used s
+  unfolding All
+  ready-stands = record {
+    levels-in = (y .stays .level-in, y .stays .around-in);
+    entries-in = y .stays .entries-in;
+    depth = omega (arith, y .stays .shallow, stack-size (s .depth) (s .levels));
+    bound = omega (arith, sound-most _ _ _ _ (y .stays .sound), y .names-few, decode-length runLayout (s .bound) (s .binds));
+  }
+
+  -- at the end of the pattern
+  module _ (e : count itemLayout pattern ≤ p) where
+    ended : drop p (patternIn names pattern numbers) ≡ []
+    ended = pattern-end names pattern numbers p e
+
+    here : Stays (length TS) (drop p (patternIn names pattern numbers)) m (levelOf s) (stackOf (s .depth) (s .levels)) (entriesOf s)
+    here = rw size-ts (y .stays)
+
+    pub ready-all : s .bound ≡ m
+    ready-all = sym (decode-length runLayout (s .bound) (s .binds)) ∙ end-all names TS m (levelOf s) (entriesOf s) _ ended (stackOf (s .depth) (s .levels)) here
+
+    pub ready-more : (s .len ≡ 0 → ⊥) → walk RD (drop p (patternIn names pattern numbers)) (levelsOf s) (entriesOf s) ≡ []
+    ready-more h = end-more names TS m (levelOf s) (entriesOf s) _ ended (stackOf (s .depth) (s .levels)) here h
+
+    pub ready-hit : s .len ≡ 0 → walk RD (drop p (patternIn names pattern numbers)) (levelsOf s) (entriesOf s) ≡ hit (entriesOf s) ∷ []
+    ready-hit h = end-hit names TS m (levelOf s) (entriesOf s) _ ended (stackOf (s .depth) (s .levels)) here h
+
+  -- at record p
+  module _ (lt : p < count itemLayout pattern) {t : Item} {x : ℕ} (et : t ≡ recordAt itemLayout pattern p) (ex : x ≡ getD numbers p 0) where
+    after : drop p (patternIn names pattern numbers) ≡ coded names t x ∷ drop (p + 1) (patternIn names pattern numbers)
+    after = pattern-at names pattern numbers p lt et ex
+
+    pub ready-item : T (itemRuleK (t .kind) names t)
+    ready-item = pattern-item names pattern numbers p (y .rule) lt et
+
+    stays-here : Stays used (coded names t x ∷ drop (p + 1) (patternIn names pattern numbers)) m (levelOf s) (stackOf (s .depth) (s .levels)) (entriesOf s)
+    stays-here = subst (λ z. Stays used z m (levelOf s) (stackOf (s .depth) (s .levels)) (entriesOf s)) after (y .stays)
+
+    pub ready-fine : Fine (t .kind) x (s .depth) (s .bound)
+    ready-fine = subst (λ d. Fine (t .kind) x d (s .bound)) (stack-size (s .depth) (s .levels))
+        (subst (λ b. Fine (t .kind) x (length (stackOf (s .depth) (s .levels))) b) (decode-length runLayout (s .bound) (s .binds))
+        (sound-fine names t x _ _ _ m (y .names-few) (stays-here .sound)))
+
+    -- so many levels and entries later
+    moved-on : {g : State} → Stays used (drop (p + 1) (patternIn names pattern numbers)) m (levelOf g) (stackOf (g .depth) (g .levels)) (entriesOf g)
+        → Ready names terms used pattern numbers (p + 1) m g cap slots
+    moved-on z = record {
+      store = y .store;
+      few = y .few;
+      rule = y .rule;
+      short = y .short;
+      numbered = y .numbered;
+      here = omega arith;
+      stays = z;
+      names-few = y .names-few;
+      room = y .room;
+    }
+
+    module _ {last : Bool} (el : last ≡ ends (drop (p + 1) (patternIn names pattern numbers))) (w : What) (at : State)
+        (em : turnAs w at ≡ turn RD (coded names t x) last (levelsOf s) (entriesOf s)) where
+      -- the walk is the turn, and then going on
+      pub ready-turn : walk RD (drop p (patternIn names pattern numbers)) (levelsOf s) (entriesOf s) ≡ onward RD (drop (p + 1) (patternIn names pattern numbers)) (turnAs w at)
+      ready-turn =
+          ap (λ z. walk RD z (levelsOf s) (entriesOf s)) after
+          ∙ walk-turn RD (drop (p + 1) (patternIn names pattern numbers)) (coded names t x) (levelsOf s) (entriesOf s)
+          ∙ ap (λ b. onward RD (drop (p + 1) (patternIn names pattern numbers)) (turn RD (coded names t x) b (levelsOf s) (entriesOf s))) (sym el)
+          ∙ ap (onward RD (drop (p + 1) (patternIn names pattern numbers))) (sym em)
+
+      kept-turn : Kept used (drop (p + 1) (patternIn names pattern numbers)) m (levelOf s) (stackOf (s .depth) (s .levels)) (entriesOf s) (turnAs w at)
+      kept-turn =
+          rw em (rw size-ts at (turn-kept names TS valid-ts (coded names t x) (drop (p + 1) (patternIn names pattern numbers)) m last (levelOf s) (stackOf (s .depth) (s .levels)) (entriesOf s)
+          (rw size-ts stays-here)))
+
+      -- what it goes on with, by the move
+      pub turn-stop : w ≡ Stop → walk RD (drop p (patternIn names pattern numbers)) (levelsOf s) (entriesOf s) ≡ []
+      unfolding turnAs onward
+      turn-stop e = ready-turn ∙ ap (λ v. onward RD (drop (p + 1) (patternIn names pattern numbers)) (turnAs v at)) e
+
+      pub turn-call : w ≡ Call → walk RD (drop p (patternIn names pattern numbers)) (levelsOf s) (entriesOf s) ≡ reached ∷ []
+      unfolding turnAs onward
+      turn-call e = ready-turn ∙ ap (λ v. onward RD (drop (p + 1) (patternIn names pattern numbers)) (turnAs v at)) e
+
+      pub turn-next : w ≡ Next → walk RD (drop p (patternIn names pattern numbers)) (levelsOf s) (entriesOf s) ≡ walk RD (drop (p + 1) (patternIn names pattern numbers)) (levelsOf at) (entriesOf at)
+      unfolding turnAs onward
+      turn-next e = ready-turn ∙ ap (λ v. onward RD (drop (p + 1) (patternIn names pattern numbers)) (turnAs v at)) e
+
+      pub ready-next : w ≡ Next → Ready names terms used pattern numbers (p + 1) m at cap slots
+      unfolding turnAs Kept
+      ready-next e = moved-on (subst (λ v. Kept used (drop (p + 1) (patternIn names pattern numbers)) m (levelOf s) (stackOf (s .depth) (s .levels)) (entriesOf s) (turnAs v at)) e kept-turn)
+
+      -- a split keeps the place, and one entry more is known after it
+      split-facts : w ≡ Split → (levelOf at ≡ levelOf s) × (stackOf (at .depth) (at .levels) ≡ stackOf (s .depth) (s .levels)) × (entriesOf at ≡ entriesOf s)
+          × Sound (drop (p + 1) (patternIn names pattern numbers)) (length (stackOf (s .depth) (s .levels))) (suc (length (entriesOf s))) m
+      unfolding turnAs Kept
+      split-facts e = subst (λ v. Kept used (drop (p + 1) (patternIn names pattern numbers)) m (levelOf s) (stackOf (s .depth) (s .levels)) (entriesOf s) (turnAs v at)) e kept-turn
+
+      module _ (e : w ≡ Split) where
+        pub split-inside : at .start + at .len ≤ used
+        split-inside = subst (λ r. r .start + r .len ≤ used) (sym (split-facts e .0)) (y .stays .level-in)
+
+        pub split-bound : at .bound < 64
+        split-bound = omega (
+          arith,
+          sound-most _ _ _ _ (split-facts e .3),
+          y .names-few,
+          decode-length runLayout (at .bound) (at .binds),
+          ap length (split-facts e .2),
+        )
+
+        split-depth : length (stackOf (at .depth) (at .levels)) ≤ 32
+        split-depth = subst (λ l. length l ≤ 32) (sym (split-facts e .1)) (y .stays .shallow)
+
+        around : All (Inside used) (stackOf (at .depth) (at .levels))
+        around = subst (All (Inside used)) (sym (split-facts e .1)) (y .stays .around-in)
+
+        entered : All (Inside used) (entriesOf at)
+        entered = subst (All (Inside used)) (sym (split-facts e .2)) (y .stays .entries-in)
+
+        -- k terms are passed
+        pub split-stands : (k : ℕ) {g : State} → k ≤ at .len → levelsOf g ≡ record { start = at .start + k; len = at .len - k } ∷ stackOf (at .depth) (at .levels)
+            → entriesOf g ≡ entriesOf at → g .depth ≡ at .depth → g .bound ≡ at .bound → Stands used g
+        unfolding All
+        split-stands k {g} h el ee ed eb = record {
+          levels-in = subst (All (Inside used)) (sym el) (omega (arith, split-inside), around);
+          entries-in = subst (All (Inside used)) (sym ee) entered;
+          depth = omega (arith, ed, split-depth, stack-size (at .depth) (at .levels));
+          bound = omega (arith, eb, split-bound);
+        }
+
+        -- k terms are given
+        pub split-ready : (k : ℕ) {g : State} → k ≤ at .len → levelsOf g ≡ record { start = at .start + k; len = at .len - k } ∷ stackOf (at .depth) (at .levels)
+            → entriesOf g ≡ entriesOf at ++ (record { start = at .start; len = k } ∷ []) → Ready names terms used pattern numbers (p + 1) m g cap slots
+        unfolding Kept
+        split-ready k {g} h el ee =
+            let given : Stays used (drop (p + 1) (patternIn names pattern numbers)) m (record { start = at .start + k; len = at .len - k }) (stackOf (at .depth) (at .levels))
+            (entriesOf at ++ (record { start = at .start; len = k } ∷ [])) = record {
+              level-in = omega (arith, split-inside);
+              around-in = around;
+              entries-in = all-snoc (Inside used) (entriesOf at) (record { start = at .start; len = k }) entered (omega (arith, split-inside));
+              shallow = split-depth;
+              sound = subst (λ n. Sound (drop (p + 1) (patternIn names pattern numbers)) (length (stackOf (at .depth) (at .levels))) n m)
+                  (ap (λ l. suc (length l)) (sym (split-facts e .2)) ∙ omega (arith, length-append (entriesOf at) (record { start = at .start; len = k } ∷ [])))
+                  (subst (λ l. Sound (drop (p + 1) (patternIn names pattern numbers)) (length l) (suc (length (entriesOf s))) m) (sym (split-facts e .1)) (split-facts e .3));
+            } in
+            moved-on (subst (λ z. Kept used (drop (p + 1) (patternIn names pattern numbers)) m (levelOf s) (stackOf (s .depth) (s .levels)) (entriesOf s) z)
+            (ap₂ next (sym el) (sym ee)) given)
+
+        -- its splits
+        pub turn-split : walk RD (drop p (patternIn names pattern numbers)) (levelsOf s) (entriesOf s)
+            ≡ upto (oneSplit RD (drop (p + 1) (patternIn names pattern numbers)) (levelOf at) (stackOf (at .depth) (at .levels)) (entriesOf at)) (at .len)
+        unfolding turnAs onward
+        turn-split =
+            ready-turn ∙ ap (λ v. onward RD (drop (p + 1) (patternIn names pattern numbers)) (turnAs v at)) e
+            ∙ ap (upto (oneSplit RD (drop (p + 1) (patternIn names pattern numbers)) (levelOf at) (stackOf (at .depth) (at .levels)) (entriesOf at)))
+            (cells-size names TS (levelOf at) (rw size-ts split-inside))
+
+-- What the rigid run says, at the place that was passed to.
+pub fits-at : (names : List ℕ) (ts : List Term) (p : List (Element ℕ)) {b : Bool} {r q : Run} {us st new env : List Run}
+    → b ≡ rigidFits p zero (map (cellsOf names ts) new) (cellsOf names ts q) → q ∷ us ≡ r ∷ st → new ≡ env → b ≡ rigidFits p zero (map (cellsOf names ts) env) (cellsOf names ts r)
+fits-at names ts p h e k = h ∙ ap₂ (λ x y. rigidFits p zero (map (cellsOf names ts) x) (cellsOf names ts y)) k (head-eq-of-cons-eq e)
+
+-- Other slots, as many.
+pub ready-slots : {names terms : List ℕ} {used : ℕ} {pattern numbers : List ℕ} {p m : ℕ} {s : State} {cap : ℕ} {slots more : List ℕ}
+    → Ready names terms used pattern numbers p m s cap slots → length more ≡ length slots → Ready names terms used pattern numbers p m s cap more
+ready-slots y e = record {
+  store = y .store;
+  few = y .few;
+  rule = y .rule;
+  short = y .short;
+  numbered = y .numbered;
+  here = y .here;
+  stays = y .stays;
+  names-few = y .names-few;
+  room = rw e (y .room);
+}
+
+-- A record that is there, by the words.
+pub there : (w : List ℕ) (p : ℕ) → p < length w / 4 → p < count itemLayout w
+unfolding count
+there w p h = h
+
+pub not-there : (w : List ℕ) (p : ℕ) → length w / 4 ≤ p → count itemLayout w ≤ p
+unfolding count
+not-there w p h = h
+
+-- The number of a record that is there.
+pub number-there : {names terms : List ℕ} {used : ℕ} {pattern numbers : List ℕ} {p m : ℕ} {s : State} {cap : ℕ} {slots : List ℕ}
+    → Ready names terms used pattern numbers p m s cap slots → p < length pattern / 4 → p < length numbers
+unfolding count
+number-there y h = omega (arith, y .numbered)

@@ -1,0 +1,5 @@
+pub mod Records
+pub mod PatternLaws
+pub mod NameLaws
+pub mod BindingLaws
+pub mod NumberLaws

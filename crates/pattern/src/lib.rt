@@ -1,0 +1,292 @@
+// Patterns and starting bindings in code: their rules (7 and 8), and the numbers of their names. From matcher.rs (`VariableKey`,
+// `Bindings`); records and their rules are the port's.
+use items::Binding;
+use items::Item;
+use words::Term;
+ghost use mathlib.Core.Path.{_≡_};
+ghost use mathlib.Core.List.{List, [], map};
+ghost use mathlib.Core.Bool.{_&&_};
+ghost use Prim.Native.Nat.{ℕ, _+_, _*_, _<_, _≤_, min};
+ghost use lib.Dec.{T, eqb};
+ghost use lib.ListN.{length, take};
+ghost use Rattle.term_spec.specs.Words.{recordAt, decode, records, count};
+ghost use Rattle.term_spec.specs.Term.{runsRule};
+ghost use Rattle.match_spec.specs.Pattern.{itemLayout, bindingLayout, boundRun, elements, bindingNames, namesAfter, nameAt, find, itemRuleK, patternRule, bindingRule, bindingsRule};
+ghost use Rattle.items.specs.Records.{asItem, asBinding};
+ghost use Rattle.pattern.specs.Records.{numbersOf, variable, sameName, itemName, firstNames, tableAt, BindingTexts, ItemTexts};
+
+// ---- the rule of a pattern (7 BadPattern) ----
+
+// A record by itself, its bracket partner apart.
+fn item_ok(names: &[u8], t: Item) -> bool
+    ensures { λ r. ⌜ r ≡ itemRuleK (t .kind) (now (names .entry)) (asItem t) ⌝ }
+{
+    if t.kind < 3 {
+        return value::symbol_ok(
+            names,
+            Term {
+                kind: t.kind,
+                a: t.a,
+                b: t.b,
+                c: t.c,
+            },
+        );
+    }
+    if t.kind < 5 {
+        if t.b != 0 {
+            return false;
+        }
+        return t.c == 0;
+    }
+    if t.kind < 8 {
+        if !text::text_ok(names, 3, t.a, t.b) {
+            return false;
+        }
+        return t.c == 0;
+    }
+    call_ok(t)
+}
+
+// A Call or Block has no words besides its kind.
+fn call_ok(t: Item) -> bool
+    requires { ⌜ 8 ≤ t .kind ⌝ }
+    ensures { λ r. ⌜ ((names : List ℕ) → r ≡ itemRuleK (t .kind) names (asItem t)) ⌝ }
+{
+    if 9 < t.kind {
+        return false;
+    }
+    if t.a != 0 {
+        return false;
+    }
+    if t.b != 0 {
+        return false;
+    }
+    t.c == 0
+}
+
+// Whether a Close at i with this a is the partner of the bracket opened at o: each has the other's number.
+fn closes(pattern: &[u32], a: usize, i: usize, o: usize) -> bool
+    requires { ⌜ o * 4 + 4 ≤ length (now pattern) ⌝ }
+    ensures { λ r. ⌜ r ≡ (eqb a o && eqb ((recordAt itemLayout (now (pattern .entry)) o) .a) i) ⌝ }
+{
+    if a != o {
+        return false;
+    }
+    let t = items::get_item(pattern, o);
+    t.a == i
+}
+
+// The rule of a pattern of at most 256 records. `opened` has the numbers of the brackets open before record i, innermost last.
+pub fn pattern_ok(names: &[u8], pattern: &[u32]) -> bool
+    requires { ⌜ length (now pattern) ≤ 1027 ⌝ }
+    ensures { λ r. ⌜ r ≡ patternRule (now (names .entry)) (records itemLayout (now (pattern .entry))) ⌝ }
+{
+    let n = pattern.len() / items::ITEM_WIDTH;
+    let mut opened: [u32; 32] = [0; 32];
+    let mut depth: usize = 0;
+    let mut i = 0;
+    while i < n {
+        let t = items::get_item(pattern, i);
+        if !item_ok(names, t) {
+            return false;
+        }
+        if t.kind == 3 {
+            if 32 <= depth {
+                return false;
+            }
+            words::set_word(&mut opened, depth, i);
+            depth += 1;
+            i += 1;
+            continue;
+        }
+        if t.kind == 4 {
+            if depth == 0 {
+                return false;
+            }
+            depth -= 1;
+            if !closes(pattern, t.a, i, words::word(&opened, depth)) {
+                return false;
+            }
+            i += 1;
+            continue;
+        }
+        i += 1;
+    }
+    depth == 0
+}
+
+// ---- the rules of starting bindings (5 PastEnd and 8 BadBinding) ----
+
+// Whether every binding's run, even an empty one, ends within so many terms.
+pub fn bindings_inside(bindings: &[u32], terms: usize) -> bool
+    ensures { λ r. ⌜ r ≡ runsRule terms (map boundRun (records bindingLayout (now (bindings .entry)))) ⌝ }
+{
+    let n = bindings.len() / items::BINDING_WIDTH;
+    let mut i = 0;
+    while i < n {
+        let b = items::get_binding(bindings, i);
+        if terms < b.len {
+            return false;
+        }
+        if terms - b.len < b.start {
+            return false;
+        }
+        i += 1;
+    }
+    true
+}
+
+// The kinds of variables.
+fn is_variable(kind: usize) -> bool
+    ensures { λ r. ⌜ r ≡ variable kind ⌝ }
+{
+    if kind < 5 {
+        return false;
+    }
+    kind <= 7
+}
+
+// Whether two names are one, each given by its kind and its text's offset and length.
+fn same_name(
+    names: &[u8],
+    kind: usize,
+    o: usize,
+    n: usize,
+    other: usize,
+    p: usize,
+    m: usize,
+) -> bool
+    requires { ⌜ (o + n ≤ length (now names)) × (p + m ≤ length (now names)) ⌝ }
+    ensures { λ r. ⌜ r ≡ sameName (nameAt (now (names .entry)) kind o n) (nameAt (now (names .entry)) other p m) ⌝ }
+{
+    if kind != other {
+        return false;
+    }
+    text::same_identifiers(names, o, n, p, m)
+}
+
+// The place of a name among the first `count` bindings, `count` if it is not there.
+fn find_binding(
+    names: &[u8],
+    bindings: &[u32],
+    count: usize,
+    kind: usize,
+    o: usize,
+    n: usize,
+) -> usize
+    requires { ⌜ (count * 5 ≤ length (now bindings)) × (o + n ≤ length (now names)) × BindingTexts (now names) (now bindings) count ⌝ }
+    ensures { λ r. ⌜ r ≡ find (nameAt (now (names .entry)) kind o n) (bindingNames (now (names .entry)) (decode bindingLayout count (now (bindings .entry)))) ⌝ }
+{
+    let mut i = 0;
+    while i < count {
+        let b = items::get_binding(bindings, i);
+        if same_name(names, kind, o, n, b.kind, b.offset, b.size) {
+            return i;
+        }
+        i += 1;
+    }
+    count
+}
+
+// The rule of a binding by itself.
+fn binding_ok(names: &[u8], b: Binding) -> bool
+    ensures { λ r. ⌜ r ≡ bindingRule (now (names .entry)) (asBinding b) ⌝ }
+{
+    if !is_variable(b.kind) {
+        return false;
+    }
+    text::text_ok(names, 3, b.offset, b.size)
+}
+
+// Each binding has a variable's kind and name, and no name is repeated.
+pub fn bindings_ok(names: &[u8], bindings: &[u32]) -> bool
+    ensures { λ r. ⌜ r ≡ bindingsRule (now (names .entry)) (records bindingLayout (now (bindings .entry))) [] ⌝ }
+{
+    let n = bindings.len() / items::BINDING_WIDTH;
+    let mut i = 0;
+    while i < n {
+        let b = items::get_binding(bindings, i);
+        if !binding_ok(names, b) {
+            return false;
+        }
+        if find_binding(names, bindings, i, b.kind, b.offset, b.size) < i {
+            return false;
+        }
+        i += 1;
+    }
+    true
+}
+
+// ---- the numbers of names ----
+
+// The place of a name among the records that the first `count` of `firsts` number, `count` if it is not there.
+fn find_first(names: &[u8], pattern: &[u32], firsts: &[u32], count: usize, t: Item) -> usize
+    requires { ⌜ (count ≤ length (now firsts)) × (t .a + t .b ≤ length (now names)) × ItemTexts (now names) (now pattern) (now firsts) count ⌝ }
+    ensures { λ r. ⌜ r ≡ find (itemName (now (names .entry)) (asItem t)) (firstNames (now (names .entry)) (now (pattern .entry)) (take count (now (firsts .entry)))) ⌝ }
+{
+    let mut i = 0;
+    while i < count {
+        let u = items::get_item(pattern, words::word(firsts, i));
+        if same_name(names, t.kind, t.a, t.b, u.kind, u.a, u.b) {
+            return i;
+        }
+        i += 1;
+    }
+    count
+}
+
+// The place of a variable's name among the bindings' names and those of the records that `firsts` number; so many if it is not there.
+fn find_name(
+    names: &[u8],
+    pattern: &[u32],
+    bindings: &[u32],
+    firsts: &[u32],
+    new: usize,
+    t: Item,
+) -> usize
+    requires { ⌜ (new ≤ length (now firsts)) × (t .a + t .b ≤ length (now names)) × ItemTexts (now names) (now pattern) (now firsts) new ⌝ }
+    requires { ⌜ (length (now bindings) ≤ 324) × (new ≤ 64) × BindingTexts (now names) (now bindings) (count bindingLayout (now bindings)) ⌝ }
+    ensures { λ r. ⌜ r ≡ find (itemName (now (names .entry)) (asItem t)) (tableAt (now (names .entry)) (now (pattern .entry)) (now (bindings .entry)) (take new (now (firsts .entry)))) ⌝ }
+{
+    let start = bindings.len() / items::BINDING_WIDTH;
+    let at = find_binding(names, bindings, start, t.kind, t.a, t.b);
+    if at < start {
+        return at;
+    }
+    start + find_first(names, pattern, firsts, new, t)
+}
+
+// Numbers each variable of the pattern: the start's names first, then first occurrence; other records get 0. Hands back how many names there
+// are, 65 if they are over 64 (then the numbers mean nothing). `firsts` has the numbers of the records that brought the new names.
+pub fn number_names(names: &[u8], pattern: &[u32], bindings: &[u32], numbers: &mut [u32]) -> usize
+    requires { ⌜ (length (now pattern) ≤ 1027) × (length (now bindings) ≤ 324) × (256 ≤ length (now numbers)) ⌝ }
+    requires { ⌜ T (patternRule (now names) (records itemLayout (now pattern))) × T (bindingsRule (now names) (records bindingLayout (now bindings)) []) ⌝ }
+    ensures { λ r. ⌜ (r ≡ min 65 (length (namesAfter (elements (now (names .entry)) (records itemLayout (now (pattern .entry)))) (bindingNames (now (names .entry)) (records bindingLayout (now (bindings .entry))))))) × (r ≤ 64 → take (count itemLayout (now (pattern .entry))) (now (numbers .exit)) ≡ numbersOf (elements (now (names .entry)) (records itemLayout (now (pattern .entry)))) (bindingNames (now (names .entry)) (records bindingLayout (now (bindings .entry))))) ⌝ }
+{
+    let n = pattern.len() / items::ITEM_WIDTH;
+    let start = bindings.len() / items::BINDING_WIDTH;
+    let mut firsts: [u32; 64] = [0; 64];
+    let mut new: usize = 0;
+    let mut i = 0;
+    while i < n {
+        let t = items::get_item(pattern, i);
+        if !is_variable(t.kind) {
+            words::set_word(numbers, i, 0);
+            i += 1;
+            continue;
+        }
+        let at = find_name(names, pattern, bindings, &firsts, new, t);
+        if 64 <= at {
+            return 65;
+        }
+        words::set_word(numbers, i, at);
+        if start + new <= at {
+            words::set_word(&mut firsts, new, i);
+            new += 1;
+            i += 1;
+            continue;
+        }
+        i += 1;
+    }
+    start + new
+}

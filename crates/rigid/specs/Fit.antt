@@ -1,0 +1,61 @@
+-- What a record of a rigid run does at the terms ahead.
+use mathlib.Core.List.{List}
+use mathlib.Core.Option.{Option, some, none}
+use mathlib.Core.Bool.{Bool, true, false}
+use lib.ListN.{getD}
+use Prim.Native.Nat.{ℕ, suc, zero, _≤_}
+use Rattle.term_spec.specs.Term.{Term}
+use Rattle.term_spec.specs.Value.{Value, char, values, contents, canon, same?, isYes, takes}
+use Rattle.match_spec.specs.Element.{Element, lit, opening, closing, call, one, many, canonE}
+use Rattle.match_spec.specs.Pattern.{Item, Name, element}
+use Rattle.rigid.specs.declared.Fit.{Fit}
+use Rattle.rigid.specs.declared.Fit.the-variants.{No, Ends, Takes}
+
+-- It takes no more terms than there are.
+abbrev pub FitIn : ℕ → Fit → Type 0
+FitIn len No = Unit {0}
+FitIn len Ends = Unit {0}
+FitIn len (Takes k) = k ≤ len
+
+-- It does not fit, the run ends and fits, or it goes on after so many terms.
+abbrev pub fitGoes : Fit → (ℕ → Bool) → Bool
+fitGoes No f = false
+fitGoes Ends f = true
+fitGoes (Takes k) f = f k
+
+-- The brackets of the run that are passed over after a record of the run: 1 after an Open.
+unfoldable pub opensTo : ℕ → ℕ
+opensTo zero = 0
+opensTo (suc zero) = 0
+opensTo (suc (suc zero)) = 0
+opensTo (suc (suc (suc zero))) = 1
+opensTo (suc (suc (suc (suc k)))) = 0
+
+-- The brackets that are passed over after a record inside d of them.
+unfoldable pub skipsTo : ℕ → ℕ → ℕ
+skipsTo zero d = d
+skipsTo (suc zero) d = d
+skipsTo (suc (suc zero)) d = d
+skipsTo (suc (suc (suc zero))) d = suc d
+skipsTo (suc (suc (suc (suc zero)))) zero = zero
+skipsTo (suc (suc (suc (suc zero)))) (suc d) = d
+skipsTo (suc (suc (suc (suc (suc k))))) d = d
+
+-- Whether there is something.
+unfoldable pub isSome : {A : Type 0} → Option A → Bool
+isSome none = false
+isSome (some x) = true
+
+-- Whether an element of one term fits a term, given by its canonical form: a literal by equality, a bracket by being one, a variable by what it
+-- takes.
+unfoldable pub headFits : Element Name → Value → Bool
+headFits (lit v) w = isYes (same? v w)
+headFits opening w = isSome (contents w)
+headFits closing w = false
+headFits call w = false
+headFits (one k n) w = takes k w
+headFits (many n) w = false
+
+-- Whether a record of one term fits term i.
+unfoldable pub fitsTerm : List ℕ → List Term → Item → ℕ → Bool
+fitsTerm names ts t i = headFits (canonE (element names t)) (canon (getD (values names ts) i (char 0)))

@@ -1,0 +1,7 @@
+pub mod Turn
+pub mod State
+pub mod ArrayLaws
+pub mod CellLaws
+pub mod StepLaws
+pub mod TurnLaws
+pub mod PatternAtLaws
