@@ -271,3 +271,18 @@ decide none none s c = accept s c
 -- One call on the lent stores.
 unfoldable pub step : Store → Call → After
 step s c = decide (input s c) (room s c) s c
+
+-- ---- for those who lend slots ----
+
+-- The words of pattern and bindings pass 1, 7, 8 and 9.
+unfoldable pub namesRule : List ℕ → List ℕ → List ℕ → Bool
+namesRule names p b =
+    (whole itemLayout p && leb (count itemLayout p) 256 && whole bindingLayout b)
+    && patternRule names (records itemLayout p) && bindingsRule names (records bindingLayout b) []
+    && leb (length (namesAfter (elements names (records itemLayout p)) (bindingNames names (records bindingLayout b)))) 64
+
+-- The names of start and pattern together: a slot has twice as many words. 0 where they are refused, for then no slot is written.
+unfoldable pub nameCount : List ℕ → List ℕ → List ℕ → ℕ
+nameCount names p b =
+    elim (namesRule names p b)
+    [ true ↦ length (namesAfter (elements names (records itemLayout p)) (bindingNames names (records bindingLayout b))) | false ↦ 0 ]

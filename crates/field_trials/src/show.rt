@@ -133,3 +133,12 @@ pub fn of_flat(flat: Flat) -> usize {
         Flat::Refused(n) => n,
     }
 }
+
+// A line that is no case: its label goes out, or the end of a line.
+pub fn text(letter: u8, label: &[u8]) {
+    match letter {
+        b'W' => write(label),
+        b'/' => write(b"\n"),
+        _ => {}
+    }
+}

@@ -127,3 +127,13 @@ pub fn fill(runs: &mut [u32], start: u32, len: u32) {
         i += 1;
     }
 }
+
+// The nodes that a line's letter names.
+pub fn lay(letter: u8, nodes: &mut [u32; 600]) {
+    match letter {
+        b'o' => rope(nodes),
+        b'n' => named(nodes),
+        b'd' => doubled(nodes),
+        _ => {}
+    }
+}

@@ -5,3 +5,4 @@ pub mod AnswerLaws
 pub mod NumberLaws
 pub mod SlotLaws
 pub mod ListLaws
+pub mod CountLaws

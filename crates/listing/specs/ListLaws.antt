@@ -88,7 +88,7 @@ module _ (s : Stores) (q : Wanted) (m : Request) where
 
 -- ---- names ----
 
--- over 64 starting bindings are over 64 names
+-- Over 64 starting bindings are over 64 names.
 pub start-many : (s : Stores) (m : Request) → 64 < length (m .bindings) / 5 → 64 < length (allNames s m)
 unfolding records count
 start-many s m h =

@@ -71,7 +71,8 @@ module _ (p b : List ℕ) where
   unfolding whole count
   even-rest e h = simp (eq-eqb _ _ e, le-leb _ _ h)
 
-  even-short : evenOf p b ≡ true → length p ≤ 1027
+  -- A pattern in even records is short.
+  pub even-short : evenOf p b ≡ true → length p ≤ 1027
   unfolding count
   even-short e =
       let h : length p / 4 ≤ 256 = leb-true _ _ (and-right (whole itemLayout p) _ (and-left (whole itemLayout p && leb (count itemLayout p) 256) (whole bindingLayout b) e)) in

@@ -15,7 +15,7 @@ ghost use Rattle.term_spec.specs.Words.{whole, count, records};
 ghost use Rattle.term_spec.specs.Term.{Run as SpecRun};
 ghost use Rattle.match_spec.specs.Pattern.{itemLayout, bindingLayout, boundRun};
 ghost use Rattle.match_spec.specs.Answer.{allOfThem, headOnly, slotsIn, numberOf};
-ghost use Rattle.calls_spec.specs.Step.{callMatch, step, matchAnswer};
+ghost use Rattle.calls_spec.specs.Step.{callMatch, step, matchAnswer, nameCount};
 ghost use Rattle.view.specs.Check.{asField, storeOf, numbered};
 ghost use Rattle.words.specs.Records.{asRun};
 ghost use Rattle.steps.specs.State.{levelsOf, entriesOf};
@@ -79,6 +79,31 @@ fn refusal(
         return 8;
     }
     0
+}
+
+// The names of pattern and bindings together, for those who lend slots: a slot has twice as many words. 0 where 1, 7, 8 or 9 refuses them.
+pub fn name_count(names: &[u8], pattern: &[u32], bindings: &[u32]) -> usize
+    ensures { λ r. ⌜ r ≡ nameCount (now (names .entry)) (now (pattern .entry)) (now (bindings .entry)) ⌝ }
+{
+    if !request_even(pattern, bindings) {
+        return 0;
+    }
+    if !pattern::pattern_ok(names, pattern) {
+        return 0;
+    }
+    if !pattern::bindings_ok(names, bindings) {
+        return 0;
+    }
+    let given = bindings.len() / items::BINDING_WIDTH;
+    if 64 < given {
+        return 0;
+    }
+    let mut numbers = [0u32; 256];
+    let found = pattern::number_names(names, pattern, bindings, &mut numbers);
+    if 64 < found {
+        return 0;
+    }
+    found
 }
 
 // Where the walk starts: the settled run, and the start's entries.

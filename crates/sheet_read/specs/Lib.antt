@@ -1,0 +1,4 @@
+pub mod Read
+pub mod NumberLaws
+pub mod LineLaws
+pub mod SheetLaws

@@ -1,0 +1,4 @@
+pub mod Write
+pub mod ColumnLaws
+pub mod LineLaws
+pub mod SheetLaws

@@ -1,0 +1,4 @@
+pub mod Told
+pub mod ToldLaws
+pub mod SheetTold
+pub mod SheetToldLaws

@@ -1,0 +1,40 @@
+//! Term records as values of the Rust, and values compared as spelled. Compiled twice: for value.rs, and for the copy that shows its nodes.
+use super::value::{Slice, Unknown, UnknownKind, Value};
+use refal_ast::Symbol;
+
+fn spelled(names: &[u8], offset: u32, len: u32) -> String {
+    String::from_utf8(names[offset as usize..(offset + len) as usize].to_vec()).expect("ASCII")
+}
+
+/// The values of all terms, by number.
+pub fn values(names: &[u8], terms: &[u32]) -> Vec<Value> {
+    let kinds = [UnknownKind::Symbol, UnknownKind::Term, UnknownKind::Expression];
+    let mut made: Vec<Value> = Vec::with_capacity(terms.len() / 4);
+    for record in terms.chunks(4) {
+        let [kind, a, b, c] = [record[0], record[1], record[2], record[3]];
+        made.push(match kind {
+            0 => Value::Char(char::from_u32(a).expect("a scalar value")),
+            1 => Value::identifier(spelled(names, a, b)),
+            2 => Value::number(spelled(names, a, b)),
+            3 => Value::Bracket(Slice::copied(&made[a as usize..(a + b) as usize])),
+            _ => Value::Unknown(Unknown::new(kinds[a as usize], b.into(), Symbol::Number(c.to_string()))),
+        });
+    }
+    made
+}
+
+/// Whether two lists of terms are spelled alike.
+pub fn alike(left: &[Value], right: &[Value]) -> bool {
+    left.len() == right.len() && left.iter().zip(right).all(|(l, r)| one_alike(l, r))
+}
+
+fn one_alike(left: &Value, right: &Value) -> bool {
+    match (left, right) {
+        (Value::Identifier(l), Value::Identifier(r)) => l == r,
+        (Value::Bracket(l), Value::Bracket(r)) => {
+            let (l, r) = (l.terms(), r.terms());
+            (l.as_ptr(), l.len()) == (r.as_ptr(), r.len()) || alike(l, r)
+        }
+        _ => left == right,
+    }
+}
