@@ -33,9 +33,8 @@ use Rattle.view_read.specs.Read.{settledIf, settledBy}
 use Rattle.value.specs.Equal.{Store as TermStore}
 use Rattle.nodes.specs.Store.{nodesIn, Store}
 use Rattle.pattern.specs.Records.{numbersOf}
-use Rattle.steps.specs.State.{stackOf, levelOf, levelsOf, entriesOf}
+use Rattle.steps.specs.State.{Place, stackOf, levelOf, levelsOf, entriesOf}
 use Rattle.steps.specs.TurnLaws.{Stays}
-use Rattle.steps.specs.declared.State.{State}
 use Rattle.matcher.specs.declared.Tally.{Tally}
 use Rattle.matcher.specs.Ready.{patternIn, candidatesIn, statusOf, progressOf, Ready, Filled}
 use Rattle.listing.specs.Match.{leavesSlots, asksTo8, refusedTo8}
@@ -214,7 +213,7 @@ module _ (s : Stores) (m : Request) (entries : ℕ) (numbers : List ℕ) (run : 
   start-size : length (startRuns m) ≡ length (startNames s m)
   start-size = length-map (bindings m) boundRun ∙ sym (length-map (bindings m) (bindingName (s .names)))
 
-  module _ (st : State) (slots : List ℕ) (el : levelsOf st ≡ run ∷ []) (ee : entriesOf st ≡ startRuns m) where
+  module _ (slots : List ℕ) where
     start-stays : Stays used (patternIn (s .names) (m .pattern) numbers) entries run [] (startRuns m)
     unfolding All
     start-stays = record {
@@ -225,9 +224,10 @@ module _ (s : Stores) (m : Request) (entries : ℕ) (numbers : List ℕ) (run : 
       sound = rw (pattern-is, o .counted, start-size) (pattern-sound (s .names) (items m) (startNames s m) (o .pattern-ok));
     }
 
-    pub ready-start : Ready (s .names) words used (m .pattern) numbers 0 entries st (slotsIn (length slots) entries) slots
+    pub ready-start : (st : Place) → levelsOf st ≡ run ∷ [] → entriesOf st ≡ startRuns m → 66 ≤ length (st .levels) → 128 ≤ length (st .binds)
+        → Ready (s .names) words used (m .pattern) numbers 0 entries st (slotsIn (length slots) entries) slots
     unfolding count
-    ready-start = record {
+    ready-start st el ee rl rb = record {
       store = store-after;
       few = room-terms .0;
       rule = o .pattern-ok;
@@ -236,6 +236,8 @@ module _ (s : Stores) (m : Request) (entries : ℕ) (numbers : List ℕ) (run : 
       here = omega arith;
       stays = stays-at;
       names-few = o .few;
+      level-room = rl;
+      entry-room = rb;
       room = room-for (length slots) entries;
     }
       where
@@ -250,12 +252,12 @@ module _ (s : Stores) (m : Request) (entries : ℕ) (numbers : List ℕ) (run : 
 
     module _ (q : Wanted) (f : Tally) (after : List ℕ)
         (walked : progressOf entries f after
-        ≡ absorb q (slotsIn (length slots) entries) (walk (runs (s .names) (decode termLayout used words)) (drop 0 (patternIn (s .names) (m .pattern) numbers)) (levelsOf st) (entriesOf st))
+        ≡ absorb q (slotsIn (length slots) entries) (walk (runs (s .names) (decode termLayout used words)) (drop 0 (patternIn (s .names) (m .pattern) numbers)) (run ∷ []) (startRuns m))
         (progressOf entries (record { stop = 0; count = 0 }) slots))
         (lent : slots ≡ m .slots) where
       pub walked-is : progressOf entries f after ≡ matchProgress s q m
       unfolding matchProgress matchEvents readSlots statusOf
-      walked-is = walked ∙ rw (terms-after, pattern-is, el, ee, o .run-is, o .counted, lent) refl
+      walked-is = walked ∙ rw (terms-after, pattern-is, o .run-is, o .counted, lent) refl
 
       pub filled-is : Filled entries (slotsIn (length slots) entries) (record { stop = 0; count = 0 }) f slots after → length after ≡ length slots
           → after ≡ fillSlots (m .slots) ((progressOf entries f after) .written)
@@ -319,20 +321,20 @@ module _ (s : Stores) (q : Wanted) (m : Request) {n : ℕ} (e : n ≡ numbered (
         let d = settled-full (s .termWords) (s .termsUsed) _ _ (ap (λ b. (b, words, used)) (sym y) ∙ p) in
         rw (d .1, d .2, d .3) (list-full s q m pass (omega arith) (d .0))
 
-    module _ (entries : ℕ) (numbers : List ℕ) (run : Run) (words : List ℕ) (used : ℕ) (o : Settled s m entries numbers run words used) (st : State) (slots : List ℕ)
-        (el : levelsOf st ≡ run ∷ []) (ee : entriesOf st ≡ startRuns m) (lent : slots ≡ m .slots) where
+    module _ (entries : ℕ) (numbers : List ℕ) (run : Run) (words : List ℕ) (used : ℕ) (o : Settled s m entries numbers run words used) (slots : List ℕ)
+        (lent : slots ≡ m .slots) where
       pub exit-done : (f : Tally) (after : List ℕ) {cap : ℕ} → cap ≡ slotsIn (length slots) entries
           → (progressOf entries f after
-          ≡ absorb q cap (walk (runs (s .names) (decode termLayout used words)) (drop 0 (patternIn (s .names) (m .pattern) numbers)) (levelsOf st) (entriesOf st))
+          ≡ absorb q cap (walk (runs (s .names) (decode termLayout used words)) (drop 0 (patternIn (s .names) (m .pattern) numbers)) (run ∷ []) (startRuns m))
           (progressOf entries (record { stop = 0; count = 0 }) slots))
           × Filled entries cap (record { stop = 0; count = 0 }) f slots after → length after ≡ length slots → {a : Answer}
           → ((w : List (List Run)) → length w ≡ f .count → a ≡ matchAnswer (numberOf (statusOf (f .stop)) w) (f .count) entries)
           → leavesSlots a (storeOf (s .names) words used (s .nodeWords) (s .nodesUsed)) after ≡ step s (callMatch q m)
       unfolding addTerms
       exit-done f after ec (g, k) len ans =
-          let w = walked-is s m entries numbers run words used o st slots el ee q f after (rw ec at g) lent in
+          let w = walked-is s m entries numbers run words used o slots q f after (rw ec at g) lent in
           let c = candidates-length entries (f .count) after in
           rw (o .words-are, o .used-is)
           (list-done s q m pass (omega (arith, o .counted, o .few)) (o .fits) w
           (ans (candidatesIn entries (f .count) after) c ∙ rw (c, o .counted) refl)
-          (filled-is s m entries numbers run words used o st slots el ee q f after (rw ec at g) lent (rw ec at k) len))
+          (filled-is s m entries numbers run words used o slots q f after (rw ec at g) lent (rw ec at k) len))

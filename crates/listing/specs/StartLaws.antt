@@ -10,15 +10,16 @@ use Rattle.term_spec.specs.WordsLaws.{decode-snoc}
 use Rattle.term_spec.specs.Term.{Run, runLayout}
 use Rattle.match_spec.specs.Pattern.{bindingLayout, boundRun}
 use Rattle.items.specs.ItemLaws.{binding-read}
+use Rattle.steps.specs.State.{Place, stackOf, levelOf, levelsOf, entriesOf}
 use Rattle.steps.specs.ArrayLaws.{entries-more}
 
 -- The runs of the first i bindings are the first i entries.
 pub record Copied (bindings binds : List ℕ) (i : ℕ) : Type 0 where
   pub below : i ≤ length bindings / 5
-  pub room : length binds ≡ 128
+  pub room : 128 ≤ length binds
   pub same : decode runLayout i binds ≡ map boundRun (decode bindingLayout i bindings)
 
-pub copied-none : (bindings binds : List ℕ) → length binds ≡ 128 → Copied bindings binds 0
+pub copied-none : (bindings binds : List ℕ) → 128 ≤ length binds → Copied bindings binds 0
 unfolding decode
 copied-none bindings binds h = record { below = omega arith; room = h; same = refl }
 
@@ -41,6 +42,16 @@ module _ (bindings binds : List ℕ) (i : ℕ) (c : Copied bindings binds i) whe
         ∙ ap (map boundRun) (sym (decode-snoc bindingLayout i bindings) ∙ ap (λ k. decode bindingLayout k bindings) (sym (add-one i)));
   }
 
-  pub copied-all : length bindings / 5 ≤ i → decode runLayout (length bindings / 5) binds ≡ map boundRun (records bindingLayout bindings)
+  pub copied-all : length bindings / 5 ≤ i → decode runLayout (count bindingLayout bindings) binds ≡ map boundRun (records bindingLayout bindings)
   unfolding records count
   copied-all h = let e : length bindings / 5 ≡ i = omega (arith, c .below) in rw e (c .same)
+
+-- Where the walk starts: there is no level around, and the entries are the start's.
+pub start-levels : (st : Place) → st .depth ≡ 0 → levelsOf st ≡ levelOf st ∷ []
+unfolding stackOf
+start-levels st e = ap (λ n. levelOf st ∷ stackOf n (st .levels)) e
+
+pub start-entries : (bindings : List ℕ) (st : Place) → st .bound ≡ length bindings / 5
+    → decode runLayout (count bindingLayout bindings) (st .binds) ≡ map boundRun (records bindingLayout bindings) → entriesOf st ≡ map boundRun (records bindingLayout bindings)
+unfolding count
+start-entries bindings st e h = ap (λ n. decode runLayout n (st .binds)) e ∙ h

@@ -10,16 +10,17 @@ ghost use mathlib.Core.List.{List, [], _∷_, map};
 ghost use mathlib.Core.Bool.{_&&_};
 ghost use Prim.Native.Nat.{_+_, _≤_};
 ghost use lib.Dec.{leb};
-ghost use lib.ListN.{length};
-ghost use Rattle.term_spec.specs.Words.{whole, count, records};
-ghost use Rattle.term_spec.specs.Term.{Run as SpecRun};
+ghost use lib.ListN.{length, drop};
+ghost use Rattle.term_spec.specs.Words.{decode, whole, count, records};
+ghost use Rattle.term_spec.specs.Term.{Run as SpecRun, termLayout};
 ghost use Rattle.match_spec.specs.Pattern.{itemLayout, bindingLayout, boundRun};
-ghost use Rattle.match_spec.specs.Answer.{allOfThem, headOnly, slotsIn, numberOf};
+ghost use Rattle.match_spec.specs.Walk.{runs, walk as walkOf};
+ghost use Rattle.match_spec.specs.Answer.{allOfThem, headOnly, slotsIn, numberOf, absorb};
 ghost use Rattle.calls_spec.specs.Step.{callMatch, step, matchAnswer, nameCount};
 ghost use Rattle.view.specs.Check.{asField, storeOf, numbered};
 ghost use Rattle.words.specs.Records.{asRun};
-ghost use Rattle.steps.specs.State.{levelsOf, entriesOf};
-ghost use Rattle.matcher.specs.Ready.{statusOf, wantedOf};
+ghost use Rattle.steps.specs.State.{Place, levelsOf, entriesOf, entriesIn};
+ghost use Rattle.matcher.specs.Ready.{patternIn, statusOf, wantedOf, progressOf, Ready, Filled};
 ghost use Rattle.listing.specs.Match.{matchedOf, leavesSlots, requestOf, refusedTo8};
 
 // What a listing answers: all candidates, with their count and the number of names; the slots are full and a further candidate exists; a
@@ -106,27 +107,66 @@ pub fn name_count(names: &[u8], pattern: &[u32], bindings: &[u32]) -> usize
     found
 }
 
-// Where the walk starts: the settled run, and the start's entries.
-fn start(bindings: &[u32], run: Run) -> State
-    requires { ⌜ length (now bindings) ≤ 324 ⌝ }
-    ensures { λ r. ⌜ (levelsOf r ≡ asRun run ∷ []) × (entriesOf r ≡ map boundRun (records bindingLayout (now (bindings .entry)))) × (r .depth ≡ 0) ⌝ }
+// The start's entries become the first runs of `binds`.
+fn start(bindings: &[u32], binds: &mut [u32])
+    requires { ⌜ (length (now bindings) ≤ 324) × (128 ≤ length (now binds)) ⌝ }
+    ensures { λ _. ⌜ entriesIn (count bindingLayout (now (bindings .entry))) (now (binds .exit)) ≡ map boundRun (records bindingLayout (now (bindings .entry))) ⌝ }
 {
     let n = bindings.len() / items::BINDING_WIDTH;
-    let mut binds = [0u32; 128];
     let mut i = 0;
     while i < n {
         binds[2 * i] = bindings[5 * i + 3];
         binds[2 * i + 1] = bindings[5 * i + 4];
         i += 1;
     }
-    State {
+}
+
+// The walk over a settled run from the start's entries, with the words of its levels and entries.
+fn walk_from(
+    names: &[u8],
+    terms: &[u32],
+    used: usize,
+    pattern: &[u32],
+    numbers: &[u32],
+    entries: usize,
+    bindings: &[u32],
+    run: Run,
+    cap: usize,
+    head: bool,
+    slots: &mut [u32],
+) -> Tally
+    requires { ⌜ length (now bindings) ≤ 324 ⌝ }
+    requires { ⌜ ((st : Place) → levelsOf st ≡ asRun run ∷ [] → entriesOf st ≡ map boundRun (records bindingLayout (now bindings)) → 66 ≤ length (st .levels) → 128 ≤ length (st .binds) → Ready (now names) (now terms) used (now pattern) (now numbers) 0 entries st cap (now slots)) ⌝ }
+    ensures { λ r. ⌜ (progressOf entries r (now (slots .exit)) ≡ absorb (wantedOf head) cap (walkOf (runs (now (names .entry)) (decode termLayout used (now (terms .entry)))) (drop 0 (patternIn (now (names .entry)) (now (pattern .entry)) (now (numbers .entry)))) (asRun run ∷ []) (map boundRun (records bindingLayout (now (bindings .entry))))) (progressOf entries (record { stop = 0; count = 0 }) (now (slots .entry)))) × Filled entries cap (record { stop = 0; count = 0 }) r (now (slots .entry)) (now (slots .exit)) ⌝ }
+{
+    let mut levels = [0u32; steps::LEVEL_WORDS];
+    let mut binds = [0u32; steps::ENTRY_WORDS];
+    start(bindings, &mut binds);
+    let at = State {
         start: run.start,
         len: run.len,
         depth: 0,
-        bound: n,
-        levels: [0u32; 64],
-        binds,
-    }
+        bound: bindings.len() / items::BINDING_WIDTH,
+    };
+    let none = Tally { stop: 0, count: 0 };
+    matcher::walk(
+        names,
+        terms,
+        used,
+        pattern,
+        numbers,
+        0,
+        entries,
+        at,
+        &mut levels,
+        &mut binds,
+        cap,
+        head,
+        false,
+        0,
+        slots,
+        none,
+    )
 }
 
 // The slots that fit whole; with no names there is one, of no words.
@@ -198,22 +238,18 @@ fn list(
         Settled::Refused(n) => Matched::Refused(n),
         Settled::At(run) => {
             let cap = slots_in(slots.len(), entries);
-            let none = Tally { stop: 0, count: 0 };
-            let tally = matcher::walk(
+            let tally = walk_from(
                 names,
                 terms,
                 *terms_used,
                 pattern,
                 &numbers,
-                0,
                 entries,
-                start(bindings, run),
+                bindings,
+                run,
                 cap,
                 head,
-                false,
-                0,
                 slots,
-                none,
             );
             answer(tally, entries)
         }

@@ -121,17 +121,16 @@ module _ (m cap : ℕ) (q : Wanted) (f : Tally) (before : List ℕ) (goes : f .s
   )
 
   -- the next slot has the words of the m entries
-  pub emit-written : (n stop : ℕ) {binds after : List ℕ} {i : ℕ} → n ≡ m → cap * (m * 2) ≤ length before → m * 2 ≤ length binds → f .count < cap
+  pub emit-written : (stop : ℕ) {binds after : List ℕ} {i : ℕ} → cap * (m * 2) ≤ length before → m * 2 ≤ length binds → f .count < cap
       → Pasted before binds (f .count * (m * 2)) (m * 2) after i → m * 2 ≤ i → statusOf stop ≡ afterOne q
-      → Emitted m cap q (decode runLayout n binds) f (record { stop = stop; count = f .count + 1 }) before after
-  emit-written n stop {binds} {after} {i} en room long lt so-far ended es =
+      → Emitted m cap q (decode runLayout m binds) f (record { stop = stop; count = f .count + 1 }) before after
+  emit-written stop {binds} {after} {i} room long lt so-far ended es =
       let fits : f .count * (m * 2) + m * 2 ≤ length before = slot-within m (f .count) cap before room lt in
       let ei : i ≡ m * 2 = omega (arith, so-far .most) in
       let ew : after ≡ paste before (f .count * (m * 2)) binds (m * 2) = so-far .words ∙ ap (paste before (f .count * (m * 2)) binds) ei in (
         ap₂ (λ w t. record { written = w; status = t }) (ap (candidatesIn m (f .count + 1)) ew ∙ slot-written m (f .count) before binds fits long) es
             ∙ sym (write-room q cap (candidatesIn m (f .count) before) (decode runLayout m binds) (omega (arith, candidates-length m (f .count) before)))
-            ∙ sym (absorb-hit q cap (decode runLayout m binds) (candidatesIn m (f .count) before) (f .stop) goes)
-            ∙ ap (λ k. absorb q cap (hit (decode runLayout k binds) ∷ []) (progressOf m f before)) (sym en),
+            ∙ sym (absorb-hit q cap (decode runLayout m binds) (candidatesIn m (f .count) before) (f .stop) goes),
         record {
           more = omega arith;
           most = omega arith;

@@ -1,9 +1,9 @@
 -- Laws of the fold in code: how the tally and the slots go along with the events that are taken in, and the loop over the splits.
-use mathlib.Core.Path.{_≡_, refl, ap, ap₂, sym, _∙_}
+use mathlib.Core.Path.{_≡_, refl, ap, ap₂, sym, subst, _∙_}
 use mathlib.Core.List.{List, [], _∷_}
 use lib.ListN.{drop}
 use lib.Seq.{drop-drop}
-use Prim.Native.Nat.{ℕ, suc, _+_, _-_, _*_, _<_, _≤_}
+use Prim.Native.Nat.{ℕ, suc, zero, _+_, _-_, _*_, _<_, _≤_}
 use native.Mathlib.Nat.{mul-le-mul-right}
 use native.Mathlib.Omega.{arith}
 use Rattle.term_spec.specs.Term.{Run}
@@ -96,6 +96,21 @@ module _ (q : Wanted) (cap m : ℕ) (G : ℕ → List (Event (List Run))) (len :
             ∙ ap (absorb q cap (splitsFrom G (k + 1) (suc len - (k + 1)))) (sym taken) ∙ apart h,
         filled-more m cap (o .filled) u,
       )
+
+  -- n splits from k on, and so all splits from k to before r, have no events
+  loop-skips : (n : ℕ) {got : Tally} {slots : List ℕ} {k : ℕ} → Looping q cap m G len whole f got before slots k → k + n ≤ suc len
+      → ((j : ℕ) → k ≤ j → j < k + n → G j ≡ []) → Looping q cap m G len whole f got before slots (k + n)
+  loop-skips zero {got} {slots} {k} o h none = let z : k ≡ k + 0 = omega arith in subst (Looping q cap m G len whole f got before slots) z o
+  loop-skips (suc n) {got} {slots} {k} o h none =
+      let z : k + 1 + n ≡ k + suc n = omega arith in
+      subst (Looping q cap m G len whole f got before slots) z
+      (loop-skips n (loop-skip o (omega arith) (none k (omega arith) (omega arith))) (omega arith) (λ j a b. none j (omega arith) (omega arith)))
+
+  pub loop-to : {got : Tally} {slots : List ℕ} {k : ℕ} (r : ℕ) → Looping q cap m G len whole f got before slots k → k ≤ r → r ≤ len + 1
+      → ((j : ℕ) → k ≤ j → j < r → G j ≡ []) → Looping q cap m G len whole f got before slots r
+  loop-to {got} {slots} {k} r o low high none =
+      let z : k + (r - k) ≡ r = omega arith in
+      subst (Looping q cap m G len whole f got before slots) z (loop-skips (r - k) o (omega arith) (λ j a b. none j a (omega arith)))
 
 -- ---- exits of the walk ----
 

@@ -12,8 +12,7 @@ use Rattle.match_spec.specs.Pattern.{itemLayout, patternRule}
 use Rattle.match_spec.specs.Answer.{Status, going, done, full, called, Progress, Wanted, allOfThem, headOnly}
 use Rattle.calls_spec.specs.Demand3.{readSlots}
 use Rattle.value.specs.Equal.{Store}
-use Rattle.steps.specs.declared.State.{State}
-use Rattle.steps.specs.State.{levelOf, stackOf, entriesOf, codedAll}
+use Rattle.steps.specs.State.{Place, levelOf, stackOf, entriesOf, codedAll}
 use Rattle.steps.specs.TurnLaws.{Stays}
 use Rattle.matcher.specs.declared.Tally.{Tally}
 
@@ -42,7 +41,7 @@ wantedOf true = headOnly
 wantedOf false = allOfThem
 
 -- The stores and the pattern are within their rules, the walk may stand where it does, and so many slots of m entries are there.
-pub record Ready (names terms : List ℕ) (used : ℕ) (pattern numbers : List ℕ) (p m : ℕ) (s : State) (cap : ℕ) (slots : List ℕ) : Type 0 where
+pub record Ready (names terms : List ℕ) (used : ℕ) (pattern numbers : List ℕ) (p m : ℕ) (s : Place) (cap : ℕ) (slots : List ℕ) : Type 0 where
   pub store : Store names terms used
   pub few : used ≤ 65536
   pub rule : T (patternRule names (records itemLayout pattern))
@@ -51,6 +50,8 @@ pub record Ready (names terms : List ℕ) (used : ℕ) (pattern numbers : List �
   pub here : p ≤ count itemLayout pattern
   pub stays : Stays used (drop p (patternIn names pattern numbers)) m (levelOf s) (stackOf (s .depth) (s .levels)) (entriesOf s)
   pub names-few : m ≤ 64
+  pub level-room : 66 ≤ length (s .levels)
+  pub entry-room : 128 ≤ length (s .binds)
   pub room : cap * (m * 2) ≤ length slots
 
 -- No more than the slots are written, and the words after them are as they were.

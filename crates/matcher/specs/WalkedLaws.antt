@@ -1,29 +1,36 @@
 -- Laws of the walk in code, one for each exit: what is taken in of the walk's events, and where the walk may go on.
 use mathlib.Core.Path.{_≡_, refl, ap, ap₂, sym, _∙_, subst}
 use mathlib.Core.List.{List, [], _∷_, _++_, map, append-nil, head-eq-of-cons-eq}
+use mathlib.Core.Option.{Option, some, none}
 use mathlib.Core.Bool.{Bool, true, false}
 use lib.Dec.{T}
-use lib.ListN.{length, getD, drop, length-map, length-append}
-use Prim.Native.Nat.{ℕ, suc, zero, _+_, _-_, _/_, _<_, _≤_, max}
+use lib.ListN.{length, getD, set, drop, length-map, length-append}
+use Prim.Native.Nat.{ℕ, suc, zero, _+_, _-_, _*_, _/_, _<_, _≤_, max}
 use native.Mathlib.Numerals.{add-one}
+use native.Mathlib.Decide.{decLt}
 use native.Mathlib.Omega.{arith}
 use Rattle.term_spec.specs.ListLaws.{All, all-snoc, part-length}
 use Rattle.term_spec.specs.Words.{decode, recordAt, count}
 use Rattle.term_spec.specs.WordsLaws.{decode-length}
-use Rattle.term_spec.specs.Term.{Term, Run, part, termLayout, runLayout}
+use Rattle.term_spec.specs.Term.{Term, Run, noRun, part, termLayout, runLayout}
 use Rattle.term_spec.specs.Value.{values, canon}
 use Rattle.term_spec.specs.TermLaws.{Valid, valid-terms, values-length}
-use Rattle.match_spec.specs.Element.{Element, Level, canonE}
+use Rattle.match_spec.specs.Element.{Element, lit, opening, closing, call, one, many, Level, canonE}
 use Rattle.match_spec.specs.Pattern.{Item, itemLayout, elementK, element, itemRuleK}
-use Rattle.match_spec.specs.Walk.{Event, hit, tried, reached, Reading, runs, cellsOf, rigidFits, ends, upto, when, ifEmpty, finishWalk, walk}
+use Rattle.match_spec.specs.Listing.{enter}
+use Rattle.match_spec.specs.Walk.{Event, hit, tried, reached, Reading, runs, cellsOf, strip, rigidFits, ends, upto, when, ifEmpty, finishWalk, leaveLevel, topLevel, spread, walk}
 use Rattle.match_spec.specs.Answer.{going, called, Progress, Wanted, absorbOne, absorb}
 use Rattle.match_spec.specs.AnswerLaws.{absorb-done, absorb-full, absorb-called}
+use Rattle.match_spec.specs.WalkLaws.{strip-sound}
 use Rattle.match_spec.specs.RunLaws.{Inside}
 use Rattle.steps.specs.Turn.{next, turn, oneSplit, onward}
-use Rattle.steps.specs.TurnLaws.{walk-turn, Sound, sound-most, Stays, Kept, turn-kept}
-use Rattle.steps.specs.PatternAtLaws.{pattern-at, pattern-end, pattern-item}
-use Rattle.steps.specs.State.{stackOf, levelOf, levelsOf, entriesOf, turnAs, Stands, renamed, coded, Fine}
+use Rattle.steps.specs.TurnLaws.{walk-turn, Sound, sound-most, Stays, Kept, turn-kept, Grows, turn-grows}
+use Rattle.steps.specs.StepLaws.{entry-in, coded-many}
+use Rattle.steps.specs.ArrayLaws.{entries-fewer, entries-less}
 use Rattle.steps.specs.declared.State.{State}
+use Rattle.rigid.specs.Fit.{FirstFit}
+use Rattle.steps.specs.PatternAtLaws.{pattern-at, pattern-end, pattern-item}
+use Rattle.steps.specs.State.{Place, placeOf, stackOf, levelOf, levelsOf, entriesIn, entriesOf, turnAs, Known, Stands, Restores, EndsApart, renamed, coded, Fine}
 use Rattle.steps.specs.declared.What.{What}
 use Rattle.steps.specs.declared.What.the-variants.{Stop, Next, Split, Call}
 use Rattle.matcher.specs.Ready.{patternIn, statusOf, Ready}
@@ -147,6 +154,63 @@ module _ (names : List ℕ) (ts : List Term) (m : ℕ) (r : Run) (env : List Run
     end-hit h = ap (λ z. walk (runs names ts) z (r ∷ st) env) e ∙ open-end st end-around
         ∙ none-left (cellsOf names ts r) _ (cells-size names ts r (s .level-in) ∙ h)
 
+-- ---- a known e-variable that ends its level ----
+
+module _ (names : List ℕ) (ts : List Term) (r : Run) (st env : List Run) (some : 1 ≤ length (cellsOf names ts r)) where
+  left-over : (c : Level) (l : List (Event (List Run))) → 1 ≤ length c → ifEmpty c l ≡ []
+  unfolding ifEmpty
+  left-over [] l h = absurd (omega arith)
+  left-over (v ∷ c) l h = refl
+
+  -- a level that ends with terms left has no candidate
+  ends-early : (p : List (Element ℕ)) → ends p ≡ true → walk (runs names ts) p (r ∷ st) env ≡ []
+  unfolding walk ends finishWalk leaveLevel
+  ends-early [] e = go st
+    where
+      go : (us : List Run) → finishWalk (runs names ts) (r ∷ us) env ≡ []
+      go [] = left-over (cellsOf names ts r) _ some
+      go (q ∷ us) = refl
+  ends-early (lit v ∷ p) e = let z : _≡_ {A = ℕ} 0 1 = cc in absurd (omega arith)
+  ends-early (opening ∷ p) e = let z : _≡_ {A = ℕ} 0 1 = cc in absurd (omega arith)
+  ends-early (closing ∷ p) e = go st
+    where
+      go : (us : List Run) → leaveLevel (runs names ts) (r ∷ us) (λ z. walk (runs names ts) p z env) ≡ []
+      go [] = refl
+      go (q ∷ us) = left-over (cellsOf names ts r) _ some
+  ends-early (call ∷ p) e = let z : _≡_ {A = ℕ} 0 1 = cc in absurd (omega arith)
+  ends-early (one k n ∷ p) e = let z : _≡_ {A = ℕ} 0 1 = cc in absurd (omega arith)
+  ends-early (many n ∷ p) e = let z : _≡_ {A = ℕ} 0 1 = cc in absurd (omega arith)
+
+-- a known e-variable takes its own terms
+spread-known : {P : Type 0} (rd : Reading Run) (d : Dec P) (b : Bool) (x : Run) (p : List (Element ℕ)) (env : List Run) (r : Run) (f : Run → List Run → List (Event (List Run)))
+    → P → spread rd d b x p env r f ≡ enter (strip (rd .cells x) (rd .cells r)) (λ t. f (rd .back (length (rd .cells x)) r) env)
+unfolding spread
+spread-known rd (yes h) b x p env r f k = refl
+spread-known rd (no h) b x p env r f k = absurd (h k)
+
+module _ (names : List ℕ) (ts : List Term) (p : List (Element ℕ)) (x : ℕ) (r : Run) (st env : List Run) (inside : Inside (length ts) r) (e : ends p ≡ true)
+    (known : x < length env) (v-in : Inside (length ts) (getD env x noRun)) (apart : (getD env x noRun) .len ≡ r .len → ⊥) where
+  abbrev known-run : Run
+  known-run = getD env x noRun
+
+  -- what is left of the level after the variable's terms, if they fit
+  after-known : (o : Option Level) → strip (cellsOf names ts known-run) (cellsOf names ts r) ≡ o
+      → enter o (λ t. walk (runs names ts) p (record { start = r .start + length (cellsOf names ts known-run); len = r .len - length (cellsOf names ts known-run) } ∷ st) env) ≡ []
+  unfolding enter
+  after-known none q = refl
+  after-known (some t) q =
+      let l : length (cellsOf names ts r) ≡ length (cellsOf names ts known-run) + length t =
+      ap length (strip-sound (cellsOf names ts known-run) (cellsOf names ts r) t q) ∙ length-append (cellsOf names ts known-run) t in
+      let a = cells-size names ts r inside in
+      let b = cells-size names ts known-run v-in in
+      let n : r .len ≡ length (cellsOf names ts known-run) → ⊥ = λ z. apart (sym b ∙ sym z) in
+      ends-early names ts _ st env
+      (omega (arith, cells-size names ts (record { start = r .start + length (cellsOf names ts known-run); len = r .len - length (cellsOf names ts known-run) }) (omega arith))) p e
+
+  pub known-apart : walk (runs names ts) (many x ∷ p) (r ∷ st) env ≡ []
+  unfolding walk topLevel
+  known-apart = spread-known (runs names ts) (decLt x (length env)) (ends p) known-run p env r _ known ∙ after-known (strip (cellsOf names ts known-run) (cellsOf names ts r)) refl
+
 -- ---- one split ----
 
 module _ (names : List ℕ) (ts : List Term) (p : List (Element ℕ)) (r : Run) (st env : List Run) (k : ℕ) where
@@ -162,6 +226,58 @@ module _ (names : List ℕ) (ts : List Term) (p : List (Element ℕ)) (r : Run) 
   unfolding oneSplit when
   split-into e = rw e refl
 
+-- The splits from k to before x are passed over, and x, if it is one, fits.
+pub record Splits (names : List ℕ) (ts : List Term) (p : List (Element ℕ)) (r : Run) (st env : List Run) (k n x : ℕ) : Type 0 where
+  pub low : k ≤ x
+  pub high : x ≤ n + 1
+  pub none : (j : ℕ) → k ≤ j → j < x → oneSplit (runs names ts) p r st env j ≡ []
+  pub fits : x ≤ n → rigidFits p zero (map (cellsOf names ts) env) (cellsOf names ts (record { start = r .start + x; len = r .len - x })) ≡ true
+
+pub splits-to : (names : List ℕ) (ts : List Term) (p : List (Element ℕ)) (r : Run) (st env new : List Run) {k n x : ℕ} → new ≡ env
+    → FirstFit (λ j. rigidFits p zero (map (cellsOf names ts) new) (cellsOf names ts (record { start = r .start + j; len = r .len - j }))) k n x
+    → Splits names ts p r st env k n x
+splits-to names ts p r st env new e o =
+    let same : (j : ℕ) → rigidFits p zero (map (cellsOf names ts) env) (cellsOf names ts (record { start = r .start + j; len = r .len - j }))
+    ≡ rigidFits p zero (map (cellsOf names ts) new) (cellsOf names ts (record { start = r .start + j; len = r .len - j })) =
+    λ j. ap (λ z. rigidFits p zero (map (cellsOf names ts) z) (cellsOf names ts (record { start = r .start + j; len = r .len - j }))) (sym e) in
+    record {
+      low = o .low;
+      high = o .high;
+      none = λ j a b. split-not names ts p r st env j (same j ∙ o .passed j a b);
+      fits = λ h. same _ ∙ o .fits h;
+    }
+
+-- After k terms were given: the levels, the entries, and the entries that words left later still show.
+module _ (s g : State) (k : ℕ) (e : g ≡ record { start = s .start + k; len = s .len - k; depth = s .depth; bound = s .bound + 1 }) where
+  pub given-levels : (lv old bd : List ℕ) → lv ≡ old → levelsOf (placeOf g lv bd) ≡ record { start = s .start + k; len = s .len - k } ∷ stackOf (s .depth) old
+  given-levels lv old bd h = ap₂ (λ z l. levelsOf (placeOf z l bd)) e h
+
+  module _ (bd now old : List ℕ) (more : entriesIn (s .bound + 1) bd ≡ entriesIn (s .bound) now ++ (record { start = s .start; len = k } ∷ []))
+      (same : entriesIn (s .bound) now ≡ entriesIn (s .bound) old) where
+    pub given-entries : (lv : List ℕ) → entriesOf (placeOf g lv bd) ≡ entriesIn (s .bound) old ++ (record { start = s .start; len = k } ∷ [])
+    given-entries lv = ap (λ z. entriesOf (placeOf z lv bd)) e ∙ more ∙ ap (_++ (record { start = s .start; len = k } ∷ [])) same
+
+    pub given-kept : (after : List ℕ) → entriesIn (g .bound) after ≡ entriesIn (g .bound) bd → entriesIn (s .bound) after ≡ entriesIn (s .bound) old
+    given-kept after h =
+        let n : s .bound ≤ g .bound = omega (arith, ap (λ z. z .bound) e) in
+        entries-fewer after bd (s .bound) (g .bound) n h ∙ entries-less bd now (s .bound) _ more ∙ same
+
+-- A record that does not go on.
+pub stop-here : (w : What) → w ≡ Stop → w ≡ Next → ⊥
+stop-here w e f = let z : _≡_ {A = ℕ} 0 1 = cc in omega arith
+
+pub call-here : (w : What) → w ≡ Call → w ≡ Next → ⊥
+call-here w e f = let z : _≡_ {A = ℕ} 0 1 = cc in omega arith
+
+pub split-here : (w : What) → w ≡ Split → w ≡ Next → ⊥
+split-here w e f = let z : _≡_ {A = ℕ} 0 1 = cc in omega arith
+
+-- The levels' words are put back.
+pub put-same : (d : ℕ) (before middle later after : List ℕ) → Restores d before middle → later ≡ middle
+    → after ≡ set (set later (2 * d) (getD before (2 * d) 0)) (2 * d + 1) (getD before (2 * d + 1) 0) → after ≡ before
+unfolding Restores
+put-same d before middle later after h e q = q ∙ ap (λ l. set (set l (2 * d) (getD before (2 * d) 0)) (2 * d + 1) (getD before (2 * d + 1) 0)) e ∙ h
+
 -- ---- where the walk goes on ----
 
 stack-size : (d : ℕ) (w : List ℕ) → length (stackOf d w) ≡ d
@@ -169,7 +285,7 @@ unfolding stackOf
 stack-size zero w = refl
 stack-size (suc d) w = ap suc (stack-size d w)
 
-module _ {names terms : List ℕ} {used : ℕ} {pattern numbers : List ℕ} {p m : ℕ} {s : State} {cap : ℕ} {slots : List ℕ}
+module _ {names terms : List ℕ} {used : ℕ} {pattern numbers : List ℕ} {p m : ℕ} {s : Place} {cap : ℕ} {slots : List ℕ}
     (y : Ready names terms used pattern numbers p m s cap slots) where
   abbrev TS : List Term
   TS = decode termLayout used terms
@@ -187,9 +303,13 @@ module _ {names terms : List ℕ} {used : ℕ} {pattern numbers : List ℕ} {p m
   unfolding All
   ready-stands = record {
     levels-in = (y .stays .level-in, y .stays .around-in);
-    entries-in = y .stays .entries-in;
+    known = record {
+      entries-in = y .stays .entries-in;
+      bound = omega (arith, sound-most _ _ _ _ (y .stays .sound), y .names-few, decode-length runLayout (s .bound) (s .binds));
+      room = y .entry-room;
+    };
     depth = omega (arith, y .stays .shallow, stack-size (s .depth) (s .levels));
-    bound = omega (arith, sound-most _ _ _ _ (y .stays .sound), y .names-few, decode-length runLayout (s .bound) (s .binds));
+    room = y .level-room;
   }
 
   -- at the end of the pattern
@@ -206,13 +326,22 @@ module _ {names terms : List ℕ} {used : ℕ} {pattern numbers : List ℕ} {p m
     pub ready-more : (s .len ≡ 0 → ⊥) → walk RD (drop p (patternIn names pattern numbers)) (levelsOf s) (entriesOf s) ≡ []
     ready-more h = end-more names TS m (levelOf s) (entriesOf s) _ ended (stackOf (s .depth) (s .levels)) here h
 
-    pub ready-hit : s .len ≡ 0 → walk RD (drop p (patternIn names pattern numbers)) (levelsOf s) (entriesOf s) ≡ hit (entriesOf s) ∷ []
-    ready-hit h = end-hit names TS m (levelOf s) (entriesOf s) _ ended (stackOf (s .depth) (s .levels)) here h
+    pub ready-hit : s .len ≡ 0 → walk RD (drop p (patternIn names pattern numbers)) (levelsOf s) (entriesOf s) ≡ hit (entriesIn m (s .binds)) ∷ []
+    ready-hit h = end-hit names TS m (levelOf s) (entriesOf s) _ ended (stackOf (s .depth) (s .levels)) here h ∙ ap (λ n. hit (entriesIn n (s .binds)) ∷ []) ready-all
 
   -- at record p
   module _ (lt : p < count itemLayout pattern) {t : Item} {x : ℕ} (et : t ≡ recordAt itemLayout pattern p) (ex : x ≡ getD numbers p 0) where
     after : drop p (patternIn names pattern numbers) ≡ coded names t x ∷ drop (p + 1) (patternIn names pattern numbers)
     after = pattern-at names pattern numbers p lt et ex
+
+    -- a known e-variable that ends its level with another number of terms
+    pub ready-apart : {last : Bool} → EndsApart (t .kind) x last (s .bound) (s .len) (s .binds) → last ≡ ends (drop (p + 1) (patternIn names pattern numbers))
+        → walk RD (drop p (patternIn names pattern numbers)) (levelsOf s) (entriesOf s) ≡ []
+    ready-apart z el =
+        ap (λ l. walk RD l (levelsOf s) (entriesOf s)) after
+        ∙ ap (λ c. walk RD (c ∷ drop (p + 1) (patternIn names pattern numbers)) (levelsOf s) (entriesOf s)) (coded-many names t x (z .many))
+        ∙ known-apart names TS (drop (p + 1) (patternIn names pattern numbers)) x (levelOf s) (stackOf (s .depth) (s .levels)) (entriesOf s) (rw size-ts (y .stays .level-in)) (sym el ∙ z .ends)
+        (rw decode-length (z .known)) (rw size-ts (entry-in used (s .bound) (s .binds) x (ready-stands .known) (z .known) refl)) (z .apart)
 
     pub ready-item : T (itemRuleK (t .kind) names t)
     ready-item = pattern-item names pattern numbers p (y .rule) lt et
@@ -226,9 +355,9 @@ module _ {names terms : List ℕ} {used : ℕ} {pattern numbers : List ℕ} {p m
         (sound-fine names t x _ _ _ m (y .names-few) (stays-here .sound)))
 
     -- so many levels and entries later
-    moved-on : {g : State} → Stays used (drop (p + 1) (patternIn names pattern numbers)) m (levelOf g) (stackOf (g .depth) (g .levels)) (entriesOf g)
-        → Ready names terms used pattern numbers (p + 1) m g cap slots
-    moved-on z = record {
+    moved-on : {g : Place} → Stays used (drop (p + 1) (patternIn names pattern numbers)) m (levelOf g) (stackOf (g .depth) (g .levels)) (entriesOf g)
+        → 66 ≤ length (g .levels) → 128 ≤ length (g .binds) → Ready names terms used pattern numbers (p + 1) m g cap slots
+    moved-on z rl rb = record {
       store = y .store;
       few = y .few;
       rule = y .rule;
@@ -237,10 +366,12 @@ module _ {names terms : List ℕ} {used : ℕ} {pattern numbers : List ℕ} {p m
       here = omega arith;
       stays = z;
       names-few = y .names-few;
+      level-room = rl;
+      entry-room = rb;
       room = y .room;
     }
 
-    module _ {last : Bool} (el : last ≡ ends (drop (p + 1) (patternIn names pattern numbers))) (w : What) (at : State)
+    module _ {last : Bool} (el : last ≡ ends (drop (p + 1) (patternIn names pattern numbers))) (w : What) (at : Place)
         (em : turnAs w at ≡ turn RD (coded names t x) last (levelsOf s) (entriesOf s)) where
       -- the walk is the turn, and then going on
       pub ready-turn : walk RD (drop p (patternIn names pattern numbers)) (levelsOf s) (entriesOf s) ≡ onward RD (drop (p + 1) (patternIn names pattern numbers)) (turnAs w at)
@@ -268,9 +399,17 @@ module _ {names terms : List ℕ} {used : ℕ} {pattern numbers : List ℕ} {p m
       unfolding turnAs onward
       turn-next e = ready-turn ∙ ap (λ v. onward RD (drop (p + 1) (patternIn names pattern numbers)) (turnAs v at)) e
 
-      pub ready-next : w ≡ Next → Ready names terms used pattern numbers (p + 1) m at cap slots
+      pub ready-next : w ≡ Next → 66 ≤ length (at .levels) → 128 ≤ length (at .binds) → Ready names terms used pattern numbers (p + 1) m at cap slots
       unfolding turnAs Kept
-      ready-next e = moved-on (subst (λ v. Kept used (drop (p + 1) (patternIn names pattern numbers)) m (levelOf s) (stackOf (s .depth) (s .levels)) (entriesOf s) (turnAs v at)) e kept-turn)
+      ready-next e rl rb = moved-on (subst (λ v. Kept used (drop (p + 1) (patternIn names pattern numbers)) m (levelOf s) (stackOf (s .depth) (s .levels)) (entriesOf s) (turnAs v at)) e kept-turn) rl rb
+
+      -- no entry is lost
+      pub next-grows : w ≡ Next → s .bound ≤ at .bound
+      unfolding turnAs Grows
+      next-grows e =
+          let g : length (entriesOf s) ≤ length (entriesOf at) =
+          subst (λ v. Grows (length (entriesOf s)) (turnAs v at)) e (rw em (turn-grows RD (entriesOf s) (coded names t x) last (levelsOf s))) in
+          omega (arith, decode-length runLayout (s .bound) (s .binds), decode-length runLayout (at .bound) (at .binds))
 
       -- a split keeps the place, and one entry more is known after it
       split-facts : w ≡ Split → (levelOf at ≡ levelOf s) × (stackOf (at .depth) (at .levels) ≡ stackOf (s .depth) (s .levels)) × (entriesOf at ≡ entriesOf s)
@@ -300,22 +439,16 @@ module _ {names terms : List ℕ} {used : ℕ} {pattern numbers : List ℕ} {p m
         entered : All (Inside used) (entriesOf at)
         entered = subst (All (Inside used)) (sym (split-facts e .2)) (y .stays .entries-in)
 
-        -- k terms are passed
-        pub split-stands : (k : ℕ) {g : State} → k ≤ at .len → levelsOf g ≡ record { start = at .start + k; len = at .len - k } ∷ stackOf (at .depth) (at .levels)
-            → entriesOf g ≡ entriesOf at → g .depth ≡ at .depth → g .bound ≡ at .bound → Stands used g
-        unfolding All
-        split-stands k {g} h el ee ed eb = record {
-          levels-in = subst (All (Inside used)) (sym el) (omega (arith, split-inside), around);
-          entries-in = subst (All (Inside used)) (sym ee) entered;
-          depth = omega (arith, ed, split-depth, stack-size (at .depth) (at .levels));
-          bound = omega (arith, eb, split-bound);
-        }
+        -- the entries in words that show the same ones
+        pub split-known : (bd : List ℕ) → entriesIn (at .bound) bd ≡ entriesOf at → 128 ≤ length bd → Known used (at .bound) bd
+        split-known bd e h = record { entries-in = subst (All (Inside used)) (sym e) entered; bound = omega (arith, split-bound); room = h }
 
         -- k terms are given
-        pub split-ready : (k : ℕ) {g : State} → k ≤ at .len → levelsOf g ≡ record { start = at .start + k; len = at .len - k } ∷ stackOf (at .depth) (at .levels)
-            → entriesOf g ≡ entriesOf at ++ (record { start = at .start; len = k } ∷ []) → Ready names terms used pattern numbers (p + 1) m g cap slots
+        pub split-ready : (k : ℕ) {g : Place} → k ≤ at .len → levelsOf g ≡ record { start = at .start + k; len = at .len - k } ∷ stackOf (at .depth) (at .levels)
+            → entriesOf g ≡ entriesOf at ++ (record { start = at .start; len = k } ∷ []) → 66 ≤ length (g .levels) → 128 ≤ length (g .binds)
+            → Ready names terms used pattern numbers (p + 1) m g cap slots
         unfolding Kept
-        split-ready k {g} h el ee =
+        split-ready k {g} h el ee rl rb =
             let given : Stays used (drop (p + 1) (patternIn names pattern numbers)) m (record { start = at .start + k; len = at .len - k }) (stackOf (at .depth) (at .levels))
             (entriesOf at ++ (record { start = at .start; len = k } ∷ [])) = record {
               level-in = omega (arith, split-inside);
@@ -327,7 +460,13 @@ module _ {names terms : List ℕ} {used : ℕ} {pattern numbers : List ℕ} {p m
                   (subst (λ l. Sound (drop (p + 1) (patternIn names pattern numbers)) (length l) (suc (length (entriesOf s))) m) (sym (split-facts e .1)) (split-facts e .3));
             } in
             moved-on (subst (λ z. Kept used (drop (p + 1) (patternIn names pattern numbers)) m (levelOf s) (stackOf (s .depth) (s .levels)) (entriesOf s) z)
-            (ap₂ next (sym el) (sym ee)) given)
+            (ap₂ next (sym el) (sym ee)) given) rl rb
+
+        -- words that show the same entries show those from before the record
+        pub split-same : (bd : List ℕ) → entriesIn (at .bound) bd ≡ entriesOf at → entriesIn (s .bound) bd ≡ entriesOf s
+        split-same bd q =
+            let n : s .bound ≡ at .bound = sym (decode-length runLayout (s .bound) (s .binds)) ∙ ap length (sym (split-facts e .2)) ∙ decode-length runLayout (at .bound) (at .binds) in
+            ap (λ k. entriesIn k bd) n ∙ q ∙ split-facts e .2
 
         -- its splits
         pub turn-split : walk RD (drop p (patternIn names pattern numbers)) (levelsOf s) (entriesOf s)
@@ -338,13 +477,8 @@ module _ {names terms : List ℕ} {used : ℕ} {pattern numbers : List ℕ} {p m
             ∙ ap (upto (oneSplit RD (drop (p + 1) (patternIn names pattern numbers)) (levelOf at) (stackOf (at .depth) (at .levels)) (entriesOf at)))
             (cells-size names TS (levelOf at) (rw size-ts split-inside))
 
--- What the rigid run says, at the place that was passed to.
-pub fits-at : (names : List ℕ) (ts : List Term) (p : List (Element ℕ)) {b : Bool} {r q : Run} {us st new env : List Run}
-    → b ≡ rigidFits p zero (map (cellsOf names ts) new) (cellsOf names ts q) → q ∷ us ≡ r ∷ st → new ≡ env → b ≡ rigidFits p zero (map (cellsOf names ts) env) (cellsOf names ts r)
-fits-at names ts p h e k = h ∙ ap₂ (λ x y. rigidFits p zero (map (cellsOf names ts) x) (cellsOf names ts y)) k (head-eq-of-cons-eq e)
-
 -- Other slots, as many.
-pub ready-slots : {names terms : List ℕ} {used : ℕ} {pattern numbers : List ℕ} {p m : ℕ} {s : State} {cap : ℕ} {slots more : List ℕ}
+pub ready-slots : {names terms : List ℕ} {used : ℕ} {pattern numbers : List ℕ} {p m : ℕ} {s : Place} {cap : ℕ} {slots more : List ℕ}
     → Ready names terms used pattern numbers p m s cap slots → length more ≡ length slots → Ready names terms used pattern numbers p m s cap more
 ready-slots y e = record {
   store = y .store;
@@ -355,6 +489,8 @@ ready-slots y e = record {
   here = y .here;
   stays = y .stays;
   names-few = y .names-few;
+  level-room = y .level-room;
+  entry-room = y .entry-room;
   room = rw e (y .room);
 }
 
@@ -368,7 +504,7 @@ unfolding count
 not-there w p h = h
 
 -- The number of a record that is there.
-pub number-there : {names terms : List ℕ} {used : ℕ} {pattern numbers : List ℕ} {p m : ℕ} {s : State} {cap : ℕ} {slots : List ℕ}
+pub number-there : {names terms : List ℕ} {used : ℕ} {pattern numbers : List ℕ} {p m : ℕ} {s : Place} {cap : ℕ} {slots : List ℕ}
     → Ready names terms used pattern numbers p m s cap slots → p < length pattern / 4 → p < length numbers
 unfolding count
 number-there y h = omega (arith, y .numbered)

@@ -11,7 +11,7 @@ ghost use Rattle.term_spec.specs.Words.{decode};
 ghost use Rattle.term_spec.specs.Term.{termLayout};
 ghost use Rattle.match_spec.specs.Walk.{runs, hit, walk as walkOf};
 ghost use Rattle.match_spec.specs.Answer.{absorb};
-ghost use Rattle.steps.specs.State.{levelsOf, entriesOf};
+ghost use Rattle.steps.specs.State.{placeOf, levelsOf, entriesOf, entriesIn};
 ghost use Rattle.matcher.specs.Ready.{patternIn, progressOf, wantedOf, Ready, Filled};
 
 // How far a listing is: why it stopped (0 it goes on, 1 it has the head that was wanted, 2 a candidate came after the slots were filled, 3 a
@@ -21,11 +21,11 @@ pub struct Tally {
     pub count: usize,
 }
 
-// A candidate goes into the next slot if there is one.
-fn emit(s: State, names: usize, cap: usize, head: bool, slots: &mut [u32], f: Tally) -> Tally
-    requires { ⌜ (s .bound ≡ names) × (names ≤ 64) × (cap * (names * 2) ≤ length (now slots)) ⌝ }
+// A candidate, the words of its entries in `binds`, goes into the next slot if there is one.
+fn emit(binds: &[u32], names: usize, cap: usize, head: bool, slots: &mut [u32], f: Tally) -> Tally
+    requires { ⌜ (names ≤ 64) × (128 ≤ length (now binds)) × (cap * (names * 2) ≤ length (now slots)) ⌝ }
     requires { ⌜ (f .stop ≡ 0) × (f .count ≤ cap) ⌝ }
-    ensures { λ r. ⌜ (progressOf names r (now (slots .exit)) ≡ absorb (wantedOf head) cap (hit (entriesOf s) ∷ []) (progressOf names f (now (slots .entry)))) × Filled names cap f r (now (slots .entry)) (now (slots .exit)) ⌝ }
+    ensures { λ r. ⌜ (progressOf names r (now (slots .exit)) ≡ absorb (wantedOf head) cap (hit (entriesIn names (now (binds .entry))) ∷ []) (progressOf names f (now (slots .entry)))) × Filled names cap f r (now (slots .entry)) (now (slots .exit)) ⌝ }
 {
     let count = f.count;
     if cap <= count {
@@ -33,7 +33,6 @@ fn emit(s: State, names: usize, cap: usize, head: bool, slots: &mut [u32], f: Ta
     }
     let width = names * words::RUN_WIDTH;
     let base = count * width;
-    let binds = s.binds;
     let mut i = 0;
     while i < width {
         slots[base + i] = binds[i];
@@ -51,8 +50,8 @@ fn emit(s: State, names: usize, cap: usize, head: bool, slots: &mut [u32], f: Ta
     }
 }
 
-// The walk from record p on: it calls itself at the next pattern record, and the split loop is inside. `limited` and `limit` are for a limit on
-// tries (02: 2.5) and mean nothing yet.
+// The walk from record p on: it calls itself at the next pattern record, and the split loop is inside. The words of the levels are as they
+// were when it returns, and those of the known entries are. `limited` and `limit` are for a limit on tries (02: 2.5) and mean nothing yet.
 pub fn walk(
     names: &[u8],
     terms: &[u32],
@@ -62,6 +61,8 @@ pub fn walk(
     p: usize,
     entries: usize,
     s: State,
+    levels: &mut [u32],
+    binds: &mut [u32],
     cap: usize,
     head: bool,
     limited: bool,
@@ -69,9 +70,9 @@ pub fn walk(
     slots: &mut [u32],
     f: Tally,
 ) -> Tally
-    requires { ⌜ Ready (now names) (now terms) used (now pattern) (now numbers) p entries s cap (now slots) ⌝ }
+    requires { ⌜ Ready (now names) (now terms) used (now pattern) (now numbers) p entries (placeOf s (now levels) (now binds)) cap (now slots) ⌝ }
     requires { ⌜ (f .count ≤ cap) ⌝ }
-    ensures { λ r. ⌜ (progressOf entries r (now (slots .exit)) ≡ absorb (wantedOf head) cap (walkOf (runs (now (names .entry)) (decode termLayout used (now (terms .entry)))) (drop p (patternIn (now (names .entry)) (now (pattern .entry)) (now (numbers .entry)))) (levelsOf s) (entriesOf s)) (progressOf entries f (now (slots .entry)))) × Filled entries cap f r (now (slots .entry)) (now (slots .exit)) ⌝ }
+    ensures { λ r. ⌜ (progressOf entries r (now (slots .exit)) ≡ absorb (wantedOf head) cap (walkOf (runs (now (names .entry)) (decode termLayout used (now (terms .entry)))) (drop p (patternIn (now (names .entry)) (now (pattern .entry)) (now (numbers .entry)))) (levelsOf (placeOf s (now (levels .entry)) (now (binds .entry)))) (entriesOf (placeOf s (now (levels .entry)) (now (binds .entry))))) (progressOf entries f (now (slots .entry)))) × Filled entries cap f r (now (slots .entry)) (now (slots .exit)) × (now (levels .exit) ≡ now (levels .entry)) × (entriesIn (s .bound) (now (binds .exit)) ≡ entriesIn (s .bound) (now (binds .entry))) ⌝ }
 {
     if f.stop != 0 {
         return f;
@@ -80,11 +81,18 @@ pub fn walk(
         if s.len != 0 {
             return f;
         }
-        return emit(s, entries, cap, head, slots, f);
+        return emit(binds, entries, cap, head, slots, f);
     }
     let t = items::get_item(pattern, p);
     let x = words::word(numbers, p);
-    let mv = steps::step(names, terms, used, t, x, steps::ends_at(pattern, p + 1), s);
+    let last = steps::ends_at(pattern, p + 1);
+    if steps::ends_apart(t.kind, x, last, s, binds) {
+        return f;
+    }
+    let d = s.depth;
+    let kept_start = levels[2 * d];
+    let kept_len = levels[2 * d + 1];
+    let mv = steps::step(names, terms, used, t, x, last, s, levels, binds);
     let what = mv.what;
     let at = mv.state;
     match what {
@@ -93,57 +101,76 @@ pub fn walk(
             stop: 3,
             count: f.count,
         },
-        What::Next => walk(
-            names,
-            terms,
-            used,
-            pattern,
-            numbers,
-            p + 1,
-            entries,
-            at,
-            cap,
-            head,
-            limited,
-            limit,
-            slots,
-            f,
-        ),
+        What::Next => {
+            let got = walk(
+                names,
+                terms,
+                used,
+                pattern,
+                numbers,
+                p + 1,
+                entries,
+                at,
+                levels,
+                binds,
+                cap,
+                head,
+                limited,
+                limit,
+                slots,
+                f,
+            );
+            steps::put_back(levels, d, kept_start, kept_len);
+            got
+        }
         What::Split => {
             let len = at.len;
-            let mut k = 0;
             let mut got = f;
+            let mut k = rigid::next_split(
+                names,
+                terms,
+                used,
+                pattern,
+                numbers,
+                p + 1,
+                at,
+                binds,
+                0,
+            );
             while k <= len {
-                if rigid::rigid_run_matches(
+                let given = steps::give(at, k, binds);
+                got = walk(
                     names,
                     terms,
                     used,
                     pattern,
                     numbers,
                     p + 1,
-                    steps::pass(at, k),
-                ) {
-                    got = walk(
-                        names,
-                        terms,
-                        used,
-                        pattern,
-                        numbers,
-                        p + 1,
-                        entries,
-                        steps::give(at, k),
-                        cap,
-                        head,
-                        limited,
-                        limit,
-                        slots,
-                        got,
-                    );
-                    if got.stop != 0 {
-                        return got;
-                    }
+                    entries,
+                    given,
+                    levels,
+                    binds,
+                    cap,
+                    head,
+                    limited,
+                    limit,
+                    slots,
+                    got,
+                );
+                if got.stop != 0 {
+                    return got;
                 }
-                k += 1;
+                k = rigid::next_split(
+                    names,
+                    terms,
+                    used,
+                    pattern,
+                    numbers,
+                    p + 1,
+                    at,
+                    binds,
+                    k + 1,
+                );
             }
             got
         }

@@ -3,7 +3,7 @@ use view::Field;
 ghost use mathlib.Core.Path.{_≡_};
 ghost use Rattle.match_spec.specs.Answer.{allOfThem, headOnly};
 ghost use Rattle.calls_spec.specs.Step.{callFromRuns, callJoin, callTake, callRest, callRange, callStartsWith, callEqual, callFlatten, callMatch, step, nameCount};
-ghost use Rattle.value.specs.Equal.{comparedRuns};
+ghost use Rattle.equality.specs.Compare.{comparedRuns};
 ghost use Rattle.view.specs.Check.{storeOf};
 ghost use Rattle.listing.specs.Match.{requestOf};
 ghost use Rattle.sheet_spec.specs.Sheet.{countsAt, readSheet};
@@ -232,7 +232,7 @@ pub extern "C" fn naldrev_compare_runs(
 ) -> usize
     ensures { λ r. ⌜ (r, now (yes .exit)) ≡ comparedTold (comparedRuns (now (names .entry)) (now (terms .entry)) «terms_used» «first_start» «first_len» «second_start» «second_len») (now (yes .entry)) ⌝ }
 {
-    let compared = value::compare_runs(
+    let compared = equality::compare_runs(
         names,
         terms,
         terms_used,

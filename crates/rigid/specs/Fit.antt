@@ -1,13 +1,15 @@
 -- What a record of a rigid run does at the terms ahead.
+use mathlib.Core.Path.{_≡_}
 use mathlib.Core.List.{List}
 use mathlib.Core.Option.{Option, some, none}
 use mathlib.Core.Bool.{Bool, true, false}
 use lib.ListN.{getD}
-use Prim.Native.Nat.{ℕ, suc, zero, _≤_}
-use Rattle.term_spec.specs.Term.{Term}
+use Prim.Native.Nat.{ℕ, suc, zero, _+_, _<_, _≤_}
+use Rattle.term_spec.specs.Words.{recordAt, count}
+use Rattle.term_spec.specs.Term.{Term, termLayout}
 use Rattle.term_spec.specs.Value.{Value, char, values, contents, canon, same?, isYes, takes}
 use Rattle.match_spec.specs.Element.{Element, lit, opening, closing, call, one, many, canonE}
-use Rattle.match_spec.specs.Pattern.{Item, Name, element}
+use Rattle.match_spec.specs.Pattern.{Item, Name, itemLayout, element}
 use Rattle.rigid.specs.declared.Fit.{Fit}
 use Rattle.rigid.specs.declared.Fit.the-variants.{No, Ends, Takes}
 
@@ -59,3 +61,21 @@ headFits (many n) w = false
 -- Whether a record of one term fits term i.
 unfoldable pub fitsTerm : List ℕ → List Term → Item → ℕ → Bool
 fitsTerm names ts t i = headFits (canonE (element names t)) (canon (getD (values names ts) i (char 0)))
+
+-- A literal or an Open cannot fit a term: of another kind, or a Char of another value.
+pub data Apart (t : Item) (u : Term) : Type 0 where
+  kinds : (u .kind ≡ t .kind → ⊥) → Apart t u
+  chars : t .kind ≡ 0 → (u .a ≡ t .a → ⊥) → Apart t u
+
+-- So for record p of a pattern, which is there, and term i.
+pub record ApartAt (terms pattern : List ℕ) (p i : ℕ) : Type 0 where
+  pub there : p < count itemLayout pattern
+  pub low : (recordAt itemLayout pattern p) .kind < 4
+  pub apart : Apart (recordAt itemLayout pattern p) (recordAt termLayout terms i)
+
+-- The first number from k on at which f holds, of those up to n; n + 1 if there is none.
+pub record FirstFit (f : ℕ → Bool) (k n r : ℕ) : Type 0 where
+  pub low : k ≤ r
+  pub high : r ≤ n + 1
+  pub passed : (j : ℕ) → k ≤ j → j < r → f j ≡ false
+  pub fits : r ≤ n → f r ≡ true

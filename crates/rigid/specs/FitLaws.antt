@@ -22,18 +22,17 @@ use Rattle.match_spec.specs.RunLaws.{back-shows}
 use Rattle.value.specs.Equal.{equalSymbols, equalRuns, valuesIn}
 use Rattle.value.specs.EqualLaws.{value-at}
 use Rattle.kinds.specs.Kinds.{takesTerm}
-use Rattle.steps.specs.declared.State.{State}
-use Rattle.steps.specs.State.{levelOf, entriesOf, Stands, renamed, coded, codedAll}
+use Rattle.steps.specs.State.{entriesIn, Known, renamed, coded, codedAll}
 use Rattle.steps.specs.CellLaws.{decided-is, literal-value, contents-no, contents-yes, takes-term, cells-size, cells-none, cells-next, strip-yes, strip-no, strip-long, run-begins, run-differs}
-use Rattle.steps.specs.StepLaws.{cellsIn, rest, top-in, entry-in, termOfItem, coded-close, coded-many, coded-call}
+use Rattle.steps.specs.StepLaws.{cellsIn, rest, entry-in, termOfItem, coded-close, coded-many, coded-call}
 use Rattle.steps.specs.PatternAtLaws.{pattern-at, pattern-end, pattern-item}
 use Rattle.rigid.specs.declared.Fit.{Fit}
 use Rattle.rigid.specs.declared.Fit.the-variants.{No, Ends, Takes}
 use Rattle.rigid.specs.Fit.{fitGoes, FitIn, opensTo, skipsTo, isSome, headFits, fitsTerm}
 
--- Whether the run p fits at the terms of r, with d brackets of it being passed over and the entries of s known.
-abbrev fitsAt : List ℕ → List ℕ → ℕ → State → List (Element ℕ) → ℕ → Run → Bool
-fitsAt names w used s p d r = rigidFits p d (map (cellsIn names w used) (entriesOf s)) (cellsIn names w used r)
+-- Whether the run p fits at the terms of r, with d brackets of it being passed over and the first m entries of `binds` known.
+abbrev pub fitsAt : List ℕ → List ℕ → ℕ → ℕ → List ℕ → List (Element ℕ) → ℕ → Run → Bool
+fitsAt names w used m binds p d r = rigidFits p d (map (cellsIn names w used) (entriesIn m binds)) (cellsIn names w used r)
 
 -- ---- brackets that are passed over ----
 
@@ -206,54 +205,54 @@ known-no (yes h) b k = absurd (k h)
 known-no (no h) b k = refl
 
 -- What the record t, whose name has number x, does at the run r.
-module _ (names w : List ℕ) (used : ℕ) (t : Item) (x : ℕ) (s : State) (r : Run) (p : List (Element ℕ)) where
-  pub fit-close : t .kind ≡ 4 → fitsAt names w used s (coded names t x ∷ p) zero r ≡ true
+module _ (names w : List ℕ) (used : ℕ) (t : Item) (x m : ℕ) (binds : List ℕ) (r : Run) (p : List (Element ℕ)) where
+  pub fit-close : t .kind ≡ 4 → fitsAt names w used m binds (coded names t x ∷ p) zero r ≡ true
   unfolding rigidFits
   fit-close e = rw (coded-close names t x e) refl
 
-  pub fit-call : 7 < t .kind → fitsAt names w used s (coded names t x ∷ p) zero r ≡ true
+  pub fit-call : 7 < t .kind → fitsAt names w used m binds (coded names t x ∷ p) zero r ≡ true
   unfolding rigidFits
   fit-call l = rw (coded-call names t x l) refl
 
-  entries-count : length (map (cellsIn names w used) (entriesOf s)) ≡ s .bound
-  entries-count = length-map (entriesOf s) (cellsIn names w used) ∙ decode-length runLayout (s .bound) (s .binds)
+  entries-count : length (map (cellsIn names w used) (entriesIn m binds)) ≡ m
+  entries-count = length-map (entriesIn m binds) (cellsIn names w used) ∙ decode-length runLayout m binds
 
-  pub fit-open : t .kind ≡ 7 → s .bound ≤ x → fitsAt names w used s (coded names t x ∷ p) zero r ≡ true
+  pub fit-open : t .kind ≡ 7 → m ≤ x → fitsAt names w used m binds (coded names t x ∷ p) zero r ≡ true
   unfolding rigidFits
   fit-open e h = rw (coded-many names t x e) (known-no _ _ (λ q. omega (arith, entries-count)))
 
   -- an e-variable that was given the run v
-  module _ (many : t .kind ≡ 7) (v : Run) (known : x < s .bound) (entry : v ≡ getD (entriesOf s) x noRun) (stands : Stands used s)
+  module _ (many : t .kind ≡ 7) (v : Run) (known : x < m) (entry : v ≡ getD (entriesIn m binds) x noRun) (stands : Known used m binds)
       (inside : r .start + r .len ≤ used) where
     within : v .start + v .len ≤ used
-    within = entry-in used s x stands known entry
+    within = entry-in used m binds x stands known entry
 
-    entry-is : getD (map (cellsIn names w used) (entriesOf s)) x [] ≡ cellsIn names w used v
+    entry-is : getD (map (cellsIn names w used) (entriesIn m binds)) x [] ≡ cellsIn names w used v
     entry-is =
-        ap (getD (map (cellsIn names w used) (entriesOf s)) x) (sym (cells-none names w used noRun refl))
-        ∙ List·getD-map (cellsIn names w used) (entriesOf s) x noRun
+        ap (getD (map (cellsIn names w used) (entriesIn m binds)) x) (sym (cells-none names w used noRun refl))
+        ∙ List·getD-map (cellsIn names w used) (entriesIn m binds) x noRun
         ∙ ap (cellsIn names w used) (sym entry)
 
-    fit-known : fitsAt names w used s (coded names t x ∷ p) zero r
-        ≡ through (strip (cellsIn names w used v) (cellsIn names w used r)) (λ l. rigidFits p zero (map (cellsIn names w used) (entriesOf s)) l)
+    fit-known : fitsAt names w used m binds (coded names t x ∷ p) zero r
+        ≡ through (strip (cellsIn names w used v) (cellsIn names w used r)) (λ l. rigidFits p zero (map (cellsIn names w used) (entriesIn m binds)) l)
     unfolding rigidFits
     fit-known =
         rw (coded-many names t x many)
         (known-yes _ _ (omega (arith, entries-count))
-        ∙ ap (λ z. through (strip z (cellsIn names w used r)) (λ l. rigidFits p zero (map (cellsIn names w used) (entriesOf s)) l)) entry-is)
+        ∙ ap (λ z. through (strip z (cellsIn names w used r)) (λ l. rigidFits p zero (map (cellsIn names w used) (entriesIn m binds)) l)) entry-is)
 
-    pub fit-long : r .len < v .len → fitsAt names w used s (coded names t x ∷ p) zero r ≡ false
+    pub fit-long : r .len < v .len → fitsAt names w used m binds (coded names t x ∷ p) zero r ≡ false
     unfolding through
     fit-long h =
         fit-known ∙ rw (strip-long (cellsIn names w used v) (cellsIn names w used r) (omega (arith, cells-size names w used v within, cells-size names w used r inside))) refl
 
     module _ (fits : v .len ≤ r .len) {b : Bool} (same : b ≡ equalRuns names w used (v .start) (v .len) (r .start) (v .len)) where
-      pub fit-differs : b ≡ false → fitsAt names w used s (coded names t x ∷ p) zero r ≡ false
+      pub fit-differs : b ≡ false → fitsAt names w used m binds (coded names t x ∷ p) zero r ≡ false
       unfolding through
       fit-differs d = fit-known ∙ rw (strip-no _ _ (run-differs names w used v r within inside fits same d)) refl
 
-      pub fit-equals : b ≡ true → fitsAt names w used s (coded names t x ∷ p) zero r
-          ≡ fitsAt names w used s p (opensTo (t .kind)) (rest (v .len) r)
+      pub fit-equals : b ≡ true → fitsAt names w used m binds (coded names t x ∷ p) zero r
+          ≡ fitsAt names w used m binds p (opensTo (t .kind)) (rest (v .len) r)
       unfolding through
       fit-equals d =
           let e : 0 ≡ opensTo (t .kind) = opens-no (t .kind) (λ q. omega arith) in
@@ -262,65 +261,65 @@ module _ (names w : List ℕ) (used : ℕ) (t : Item) (x : ℕ) (s : State) (r :
 
   -- a record that takes one term
   module _ (low : t .kind < 7) (other : t .kind ≡ 4 → ⊥) where
-    pub fit-none : r .len ≡ 0 → fitsAt names w used s (coded names t x ∷ p) zero r ≡ false
+    pub fit-none : r .len ≡ 0 → fitsAt names w used m binds (coded names t x ∷ p) zero r ≡ false
     unfolding coded element
     fit-none e = rw (cells-none names w used r e) (record-none (t .kind) names t x p _ low other)
 
     module _ (inside : r .start + r .len ≤ used) (some : r .len ≡ 0 → ⊥) {b : Bool} (head : b ≡ fitsTerm names (decode termLayout used w) t (r .start)) where
-      fit-head : fitsAt names w used s (coded names t x ∷ p) zero r
-          ≡ b && fitsAt names w used s p (opensTo (t .kind)) (rest 1 r)
+      fit-head : fitsAt names w used m binds (coded names t x ∷ p) zero r
+          ≡ b && fitsAt names w used m binds p (opensTo (t .kind)) (rest 1 r)
       unfolding coded element fitsTerm
       fit-head = rw (cells-next names w used r inside some, head) (record-one (t .kind) names t x p _ _ _ low other)
 
-      pub fit-not : b ≡ false → fitsAt names w used s (coded names t x ∷ p) zero r ≡ false
+      pub fit-not : b ≡ false → fitsAt names w used m binds (coded names t x ∷ p) zero r ≡ false
       fit-not e = fit-head ∙ rw e refl
 
-      pub fit-one : b ≡ true → fitsAt names w used s (coded names t x ∷ p) zero r
-          ≡ fitsAt names w used s p (opensTo (t .kind)) (rest 1 r)
+      pub fit-one : b ≡ true → fitsAt names w used m binds (coded names t x ∷ p) zero r
+          ≡ fitsAt names w used m binds p (opensTo (t .kind)) (rest 1 r)
       fit-one e = fit-head ∙ rw e refl
 
 -- ---- what is left of the run ----
 
 -- The pattern with the numbers of its names.
-abbrev patternIn : List ℕ → List ℕ → List ℕ → List (Element ℕ)
+abbrev pub patternIn : List ℕ → List ℕ → List ℕ → List (Element ℕ)
 patternIn names pattern numbers = codedAll names (records itemLayout pattern) numbers
 
--- Whether the run from record p on fits at the innermost level of s: what is asked.
-abbrev asked : List ℕ → List ℕ → ℕ → List ℕ → List ℕ → ℕ → State → Bool
-asked names w used pattern numbers p s = fitsAt names w used s (drop p (patternIn names pattern numbers)) zero (levelOf s)
+-- Whether the run from record p on fits at the terms of r: what is asked.
+abbrev asked : List ℕ → List ℕ → ℕ → List ℕ → List ℕ → ℕ → ℕ → List ℕ → Run → Bool
+asked names w used pattern numbers p m binds r = fitsAt names w used m binds (drop p (patternIn names pattern numbers)) zero r
 
 -- What is asked comes to whether the run from record i on fits at the len terms from start on, d brackets of it being passed over.
-pub record Left (names w : List ℕ) (used : ℕ) (pattern numbers : List ℕ) (p : ℕ) (s : State) (i d start len : ℕ) : Type 0 where
+pub record Left (names w : List ℕ) (used : ℕ) (pattern numbers : List ℕ) (p m : ℕ) (binds : List ℕ) (r : Run) (i d start len : ℕ) : Type 0 where
   pub inside : start + len ≤ used
   pub few : d ≤ i
-  pub same : asked names w used pattern numbers p s ≡ fitsAt names w used s (drop i (patternIn names pattern numbers)) d (record { start = start; len = len })
+  pub same : asked names w used pattern numbers p m binds r ≡ fitsAt names w used m binds (drop i (patternIn names pattern numbers)) d (record { start = start; len = len })
 
 pub taken-in : (len : ℕ) (f : Fit) (k : ℕ) → FitIn len f → f ≡ Takes k → k ≤ len
 taken-in len f k h e = rw e at h
 
-module _ {names w : List ℕ} {used : ℕ} {pattern numbers : List ℕ} {p : ℕ} {s : State} where
-  pub left-first : Stands used s → Left names w used pattern numbers p s p 0 (s .start) (s .len)
-  left-first h = record { inside = top-in used s h; few = omega arith; same = refl }
+module _ {names w : List ℕ} {used : ℕ} {pattern numbers : List ℕ} {p m : ℕ} {binds : List ℕ} {r : Run} where
+  pub left-first : r .start + r .len ≤ used → Left names w used pattern numbers p m binds r p 0 (r .start) (r .len)
+  left-first h = record { inside = h; few = omega arith; same = refl }
 
-  module _ {i d start len : ℕ} (left : Left names w used pattern numbers p s i d start len) where
+  module _ {i d start len : ℕ} (left : Left names w used pattern numbers p m binds r i d start len) where
     -- past the end of the pattern
-    pub left-end : length pattern / 4 ≤ i → true ≡ asked names w used pattern numbers p s
+    pub left-end : length pattern / 4 ≤ i → true ≡ asked names w used pattern numbers p m binds r
     unfolding count rigidFits
     left-end h = sym (left .same ∙ rw (pattern-end names pattern numbers i h) refl)
 
     -- at record i
     module _ (lt : i < length pattern / 4) {t : Item} (at : t ≡ recordAt itemLayout pattern i) where
       here : {x : ℕ} → x ≡ getD numbers i 0
-          → asked names w used pattern numbers p s
-          ≡ fitsAt names w used s (coded names t x ∷ drop (i + 1) (patternIn names pattern numbers)) d (record { start = start; len = len })
+          → asked names w used pattern numbers p m binds r
+          ≡ fitsAt names w used m binds (coded names t x ∷ drop (i + 1) (patternIn names pattern numbers)) d (record { start = start; len = len })
       unfolding count
-      here e = left .same ∙ ap (λ z. fitsAt names w used s z d (record { start = start; len = len })) (pattern-at names pattern numbers i lt at e)
+      here e = left .same ∙ ap (λ z. fitsAt names w used m binds z d (record { start = start; len = len })) (pattern-at names pattern numbers i lt at e)
 
       pub left-item : T (patternRule names (records itemLayout pattern)) → T (itemRuleK (t .kind) names t)
       unfolding count
       left-item h = pattern-item names pattern numbers i h lt at
 
-      pub left-skipped : {e : ℕ} → 0 < d → e ≡ skipsTo (t .kind) d → Left names w used pattern numbers p s (i + 1) e start len
+      pub left-skipped : {e : ℕ} → 0 < d → e ≡ skipsTo (t .kind) d → Left names w used pattern numbers p m binds r (i + 1) e start len
       left-skipped h q = record {
         inside = left .inside;
         few = omega (arith, left .few, skips-few (t .kind) d);
@@ -330,19 +329,19 @@ module _ {names w : List ℕ} {used : ℕ} {pattern numbers : List ℕ} {p : ℕ
       -- what its record does
       module _ (f : Fit) {x : ℕ} (zero-d : d ≤ 0) (number : x ≡ getD numbers i 0)
           (goes : (q : List (Element ℕ))
-          → fitsAt names w used s (coded names t x ∷ q) zero (record { start = start; len = len })
-          ≡ fitGoes f (λ k. fitsAt names w used s q (opensTo (t .kind)) (record { start = start + k; len = len - k }))) where
-        left-goes : asked names w used pattern numbers p s
-            ≡ fitGoes f (λ k. fitsAt names w used s (drop (i + 1) (patternIn names pattern numbers)) (opensTo (t .kind)) (record { start = start + k; len = len - k }))
+          → fitsAt names w used m binds (coded names t x ∷ q) zero (record { start = start; len = len })
+          ≡ fitGoes f (λ k. fitsAt names w used m binds q (opensTo (t .kind)) (record { start = start + k; len = len - k }))) where
+        left-goes : asked names w used pattern numbers p m binds r
+            ≡ fitGoes f (λ k. fitsAt names w used m binds (drop (i + 1) (patternIn names pattern numbers)) (opensTo (t .kind)) (record { start = start + k; len = len - k }))
         left-goes = let z : d ≡ 0 = omega arith in rw z at (here number) ∙ goes (drop (i + 1) (patternIn names pattern numbers))
 
-        pub left-no : f ≡ No → false ≡ asked names w used pattern numbers p s
+        pub left-no : f ≡ No → false ≡ asked names w used pattern numbers p m binds r
         left-no e = sym (rw e at left-goes)
 
-        pub left-ends : f ≡ Ends → true ≡ asked names w used pattern numbers p s
+        pub left-ends : f ≡ Ends → true ≡ asked names w used pattern numbers p m binds r
         left-ends e = sym (rw e at left-goes)
 
-        pub left-takes : {k e : ℕ} → FitIn len f → f ≡ Takes k → e ≡ opensTo (t .kind) → Left names w used pattern numbers p s (i + 1) e (start + k) (len - k)
+        pub left-takes : {k e : ℕ} → FitIn len f → f ≡ Takes k → e ≡ opensTo (t .kind) → Left names w used pattern numbers p m binds r (i + 1) e (start + k) (len - k)
         left-takes {k} h g q = record {
           inside = omega (arith, left .inside, taken-in len f k h g);
           few = omega (arith, opens-few (t .kind));

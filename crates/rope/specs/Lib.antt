@@ -1,6 +1,6 @@
-pub mod Spot
-pub mod StepLaws
-pub mod SpotLaws
+pub mod Pieces
+pub mod LinkLaws
+pub mod PiecesLaws
 pub mod FrontLaws
 pub mod CopyLaws
 pub mod CopiedLaws

@@ -1,8 +1,10 @@
 // Reading the terms of a node from left to right, run by run. From value.rs (`Flat`, `ViewField::starts_with` and equality of fields), where
-// the fields are read through an iterator. Nothing here recurses and nothing keeps a stack: a store can be 65,535 nodes high.
+// the fields are read through an iterator. Nothing here recurses, since a store can be 65,535 nodes high: what is to be read after a piece waits
+// on a stack of 32 fields, and where that is too small reading goes on from the node itself.
 use words::Run;
 ghost use mathlib.Core.Path.{_≡_};
-ghost use Prim.Native.Nat.{_+_, _*_, _<_, _≤_};
+ghost use mathlib.Core.List.{[]};
+ghost use Prim.Native.Nat.{_+_, _*_, _-_, _<_, _≤_};
 ghost use lib.ListN.{length, take, drop};
 ghost use lib.Seq.{sets};
 ghost use Rattle.term_spec.specs.Words.{decode, write};
@@ -12,60 +14,106 @@ ghost use Rattle.view_spec.specs.Read.{equalTerms};
 ghost use Rattle.words.specs.Records.{asRun};
 ghost use Rattle.nodes.specs.Store.{nodesIn, Store};
 ghost use Rattle.value.specs.Equal.{Store as TermStore, valuesIn};
-ghost use Rattle.rope.specs.Spot.{asSpot, ahead as aheadOf, runAt};
+ghost use Rattle.rope.specs.Pieces.{restOf, Ready, Goes, Front, front as frontOf, passed};
 
-// A place in the nodes: so many terms into a node.
-pub struct Spot {
-    pub node: usize,
-    pub skip: usize,
+// What is to be read next: `left` terms of a node after its first `skip`, then the fields on a stack of `depth` fields, the last one first.
+struct Piece {
+    node: usize,
+    skip: usize,
+    left: usize,
+    depth: usize,
 }
 
-// The same place with the left parts that are used up dropped, so that the way to the next run is short.
-pub fn ahead(nodes: &[u32], terms: usize, used: usize, at: Spot) -> Spot
-    requires { ⌜ Store (now nodes) terms used × (at .node < used) ⌝ }
-    ensures { λ r. ⌜ asSpot r ≡ aheadOf (nodesIn (now (nodes .entry)) used) (asSpot at) ⌝ }
+// The most fields on a stack, and their words: two to a field.
+const MOST_FIELDS: usize = 32;
+
+const STACK_WORDS: usize = 64;
+
+// The same terms, with a piece that begins with a run. Where the stack is full it is emptied, and the terms of its fields are left out.
+fn settle(
+    nodes: &[u32],
+    terms: usize,
+    used: usize,
+    stack: &mut [u32; STACK_WORDS],
+    at: Piece,
+) -> Piece
+    requires { ⌜ Store (now nodes) terms used × Ready (nodesIn (now nodes) used) (restOf at (now stack)) × (at .depth ≤ 32) ⌝ }
+    ensures { λ r. ⌜ (r .depth ≤ 32) × Goes (nodesIn (now (nodes .entry)) used) terms (restOf at (now (stack .entry))) (restOf r (now (stack .exit))) × Front (nodesIn (now (nodes .entry)) used) (r .node) (r .skip) ⌝ }
 {
-    let mut node = at.node;
-    let mut skip = at.skip;
+    let mut at = at;
     loop {
-        let n = words::get_node(nodes, node);
-        if n.kind == 0 {
-            return Spot { node, skip };
+        let n = words::get_node(nodes, at.node);
+        if n.b <= at.skip {
+            at.skip -= n.b;
+            at.node = n.c;
+            continue;
         }
-        if skip < n.b {
-            return Spot { node, skip };
+        if n.kind == 1 {
+            return at;
         }
-        skip -= n.b;
-        node = n.c;
+        let here = n.b - at.skip;
+        if at.left <= here {
+            at.node = n.a;
+            continue;
+        }
+        if at.depth == MOST_FIELDS {
+            at.depth = 0;
+            continue;
+        }
+        words::set_word(stack, at.depth * 2, n.c);
+        words::set_word(stack, at.depth * 2 + 1, at.left - here);
+        at.depth += 1;
+        at.left = here;
+        at.node = n.a;
     }
 }
 
-// The run that starts at a place: of `len` terms there, as many as stand in one run. A left part is read no further than its length.
-pub fn run_at(nodes: &[u32], terms: usize, used: usize, at: Spot, len: usize) -> Run
-    requires { ⌜ Store (now nodes) terms used × (terms ≤ 65536) × (at .node < used) ⌝ }
-    ensures { λ r. ⌜ asRun r ≡ runAt (nodesIn (now (nodes .entry)) used) (asSpot at) len ⌝ }
+// The run that a settled piece begins with.
+fn front(nodes: &[u32], terms: usize, used: usize, at: Piece) -> Run
+    requires { ⌜ Store (now nodes) terms used × (terms ≤ 65536) × (at .node < used) × Front (nodesIn (now nodes) used) (at .node) (at .skip) ⌝ }
+    ensures { λ r. ⌜ asRun r ≡ frontOf (nodesIn (now (nodes .entry)) used) (at .node) (at .skip) (at .left) ⌝ }
 {
-    let mut node = at.node;
-    let mut skip = at.skip;
-    let mut most = len;
-    loop {
-        let n = words::get_node(nodes, node);
-        if n.kind == 0 {
-            return Run { start: 0, len: 0 };
-        }
-        if n.b <= skip {
-            skip -= n.b;
-            node = n.c;
-            continue;
-        }
-        most = nodes::smaller(most, n.b - skip);
-        if n.kind == 1 {
-            return Run {
-                start: n.a + skip,
-                len: most,
-            };
-        }
-        node = n.a;
+    let n = words::get_node(nodes, at.node);
+    Run {
+        start: n.a + at.skip,
+        len: nodes::smaller(at.left, n.b - at.skip),
+    }
+}
+
+// What is to be read after k terms of the piece. Where nothing is left there it is the first len terms of `node` after the first `done`.
+fn past(
+    stack: &[u32; STACK_WORDS],
+    at: Piece,
+    k: usize,
+    node: usize,
+    done: usize,
+    len: usize,
+) -> Piece
+    requires { ⌜ (k ≤ at .left) × (at .skip + at .left ≤ 65536) × (at .depth ≤ 32) × (done ≤ len) ⌝ }
+    ensures { λ r. ⌜ (r .depth ≤ 32) × (restOf r (now (stack .entry)) ≡ passed (restOf at (now (stack .entry))) k (record { node = node; skip = done; left = len - done; later = [] })) ⌝ }
+{
+    let depth = at.depth;
+    if k < at.left {
+        return Piece {
+            node: at.node,
+            skip: at.skip + k,
+            left: at.left - k,
+            depth,
+        };
+    }
+    if depth == 0 {
+        return Piece {
+            node,
+            skip: done,
+            left: len - done,
+            depth: 0,
+        };
+    }
+    Piece {
+        node: words::word(stack, (depth - 1) * 2),
+        skip: 0,
+        left: words::word(stack, (depth - 1) * 2 + 1),
+        depth: depth - 1,
     }
 }
 
@@ -88,34 +136,33 @@ pub fn equal_fronts(
     if f == g {
         return true;
     }
-    let mut a = Spot { node: f, skip: 0 };
-    let mut b = Spot { node: g, skip: 0 };
+    let mut f_stack = [0u32; STACK_WORDS];
+    let mut g_stack = [0u32; STACK_WORDS];
+    let mut a = Piece {
+        node: f,
+        skip: 0,
+        left: n,
+        depth: 0,
+    };
+    let mut b = Piece {
+        node: g,
+        skip: 0,
+        left: n,
+        depth: 0,
+    };
     let mut done = 0;
     while done < n {
-        let r = run_at(nodes, terms_used, nodes_used, a, n - done);
-        let s = run_at(nodes, terms_used, nodes_used, b, r.len);
-        if !value::equal_runs(names, terms, terms_used, r.start, s.len, s.start, s.len) {
+        a = settle(nodes, terms_used, nodes_used, &mut f_stack, a);
+        b = settle(nodes, terms_used, nodes_used, &mut g_stack, b);
+        let r = front(nodes, terms_used, nodes_used, a);
+        let s = front(nodes, terms_used, nodes_used, b);
+        let k = nodes::smaller(r.len, s.len);
+        if !equality::equal_runs(names, terms, terms_used, r.start, k, s.start, k) {
             return false;
         }
-        a = ahead(
-            nodes,
-            terms_used,
-            nodes_used,
-            Spot {
-                node: a.node,
-                skip: a.skip + s.len,
-            },
-        );
-        b = ahead(
-            nodes,
-            terms_used,
-            nodes_used,
-            Spot {
-                node: b.node,
-                skip: b.skip + s.len,
-            },
-        );
-        done += s.len;
+        done += k;
+        a = past(&f_stack, a, k, f, done, n);
+        b = past(&g_stack, b, k, g, done, n);
     }
     true
 }
@@ -159,10 +206,17 @@ pub fn copy_out(
     requires { ⌜ len * 4 ≤ length (now work) ⌝ }
     ensures { λ _. ⌜ now (work .exit) ≡ write termLayout (now (work .entry)) 0 (holds (decode termLayout «terms_used» (now (terms .entry))) (nodesIn (now (nodes .entry)) «nodes_used») (record { node = node; len = len })) ⌝ }
 {
-    let mut at = Spot { node, skip: 0 };
+    let mut stack = [0u32; STACK_WORDS];
+    let mut at = Piece {
+        node,
+        skip: 0,
+        left: len,
+        depth: 0,
+    };
     let mut done = 0;
     while done < len {
-        let r = run_at(nodes, terms_used, nodes_used, at, len - done);
+        at = settle(nodes, terms_used, nodes_used, &mut stack, at);
+        let r = front(nodes, terms_used, nodes_used, at);
         copy_words(
             terms,
             work,
@@ -170,16 +224,8 @@ pub fn copy_out(
             done * words::TERM_WIDTH,
             r.len * words::TERM_WIDTH,
         );
-        at = ahead(
-            nodes,
-            terms_used,
-            nodes_used,
-            Spot {
-                node: at.node,
-                skip: at.skip + r.len,
-            },
-        );
         done += r.len;
+        at = past(&stack, at, r.len, node, done, len);
     }
 }
 
@@ -197,25 +243,24 @@ pub fn copy_after(
     requires { ⌜ («terms_used» + len) * 4 ≤ length (now terms) ⌝ }
     ensures { λ _. ⌜ now (terms .exit) ≡ write termLayout (now (terms .entry)) «terms_used» (holds (decode termLayout «terms_used» (now (terms .entry))) (nodesIn (now (nodes .entry)) «nodes_used») (record { node = node; len = len })) ⌝ }
 {
-    let mut at = Spot { node, skip: 0 };
+    let mut stack = [0u32; STACK_WORDS];
+    let mut at = Piece {
+        node,
+        skip: 0,
+        left: len,
+        depth: 0,
+    };
     let mut done = 0;
     while done < len {
-        let r = run_at(nodes, terms_used, nodes_used, at, len - done);
+        at = settle(nodes, terms_used, nodes_used, &mut stack, at);
+        let r = front(nodes, terms_used, nodes_used, at);
         copy_words_up(
             terms,
             r.start * words::TERM_WIDTH,
             (terms_used + done) * words::TERM_WIDTH,
             r.len * words::TERM_WIDTH,
         );
-        at = ahead(
-            nodes,
-            terms_used,
-            nodes_used,
-            Spot {
-                node: at.node,
-                skip: at.skip + r.len,
-            },
-        );
         done += r.len;
+        at = past(&stack, at, r.len, node, done, len);
     }
 }

@@ -1,16 +1,16 @@
 -- Runs kept in an array of words, two words each: the last of them, one more of them, and those that a write leaves alone.
 use mathlib.Core.Path.{_≡_, refl, ap, ap₂, sym, _∙_}
 use mathlib.Core.List.{List, [], _∷_, _++_}
-use lib.ListN.{length, getD, set, length-set}
-use lib.Seq.{getD-set-same, getD-set-other}
+use lib.ListN.{length, getD, take, set, length-set}
+use lib.Seq.{getD-set-same, getD-set-other, set-getD, set-set, set-comm, take-at}
 use Prim.Native.Nat.{ℕ, suc, zero, _+_, _-_, _*_, _<_, _≤_}
 use native.Mathlib.Numerals.{add-one}
 use native.Mathlib.Omega.{arith}
 use Rattle.term_spec.specs.Words.{decode, recordAt}
-use Rattle.term_spec.specs.WordsLaws.{decode-at, decode-snoc}
+use Rattle.term_spec.specs.WordsLaws.{decode-at, decode-below, decode-length, decode-snoc}
 use Rattle.term_spec.specs.Term.{Run, noRun, runLayout}
 use Rattle.words.specs.RecordLaws.{run-read}
-use Rattle.steps.specs.State.{stackOf}
+use Rattle.steps.specs.State.{stackOf, Restores}
 
 -- Run i is its two words.
 pub run-at : (w : List ℕ) (i : ℕ) {a b : ℕ} → a ≡ getD w (2 * i) 0 → b ≡ getD w (2 * i + 1) 0 → _≡_ {A = Run} (record { start = a; len = b }) (recordAt runLayout w i)
@@ -65,3 +65,32 @@ pub stack-less : (w : List ℕ) (d : ℕ) {a b : ℕ} → 1 ≤ d → a ≡ getD
     → stackOf d w ≡ record { start = a; len = b } ∷ stackOf (d - 1) w
 unfolding stackOf
 stack-less w d h p q = let e : d ≡ suc (d - 1) = omega arith in ap (λ n. stackOf n w) e ∙ ap (_∷ stackOf (d - 1) w) (sym (run-at w (d - 1) p q))
+
+pub stack-less-run : (w : List ℕ) (d : ℕ) {r : Run} → 1 ≤ d → r ≡ recordAt runLayout w (d - 1) → stackOf d w ≡ r ∷ stackOf (d - 1) w
+unfolding stackOf
+stack-less-run w d h e = let n : d ≡ suc (d - 1) = omega arith in ap (λ n. stackOf n w) n ∙ ap (_∷ stackOf (d - 1) w) (sym e)
+
+-- Fewer of the same entries are the same, and so are those that one more was added to.
+pub entries-fewer : (v w : List ℕ) (n m : ℕ) → n ≤ m → decode runLayout m v ≡ decode runLayout m w → decode runLayout n v ≡ decode runLayout n w
+entries-fewer v w n m h e = sym (decode-below runLayout m n v h) ∙ ap (take n) e ∙ decode-below runLayout m n w h
+
+pub entries-less : (v w : List ℕ) (n : ℕ) (r : Run) → decode runLayout (n + 1) v ≡ decode runLayout n w ++ (r ∷ []) → decode runLayout n v ≡ decode runLayout n w
+entries-less v w n r e =
+    sym (decode-below runLayout (n + 1) n v (omega arith)) ∙ ap (take n) e ∙ take-at (decode runLayout n w) (r ∷ []) n (decode-length runLayout n w)
+
+-- ---- a run put back ----
+
+pub restores-same : (d : ℕ) (w : List ℕ) → Restores d w w
+unfolding Restores
+restores-same d w = rw (set-getD, set-getD) refl
+
+pub restores-two : (d : ℕ) (w : List ℕ) (a b : ℕ) → Restores d w (set (set w (2 * d) a) (2 * d + 1) b)
+unfolding Restores
+restores-two d w a b =
+    let n : 2 * d + 1 ≡ 2 * d → ⊥ = λ q. omega arith in
+    let x = getD w (2 * d) 0 in
+    let y = getD w (2 * d + 1) 0 in
+    ap (λ l. set l (2 * d + 1) y) (set-comm (set w (2 * d) a) (2 * d + 1) (2 * d) b x n)
+    ∙ set-set (set (set w (2 * d) a) (2 * d) x) (2 * d + 1) b y
+    ∙ ap (λ l. set l (2 * d + 1) y) (set-set w (2 * d) a x ∙ set-getD w (2 * d) 0)
+    ∙ set-getD w (2 * d + 1) 0

@@ -2,11 +2,11 @@
 use mathlib.Core.Path.{_≡_, refl, ap, ap₂, sym, subst, _∙_}
 use mathlib.Core.List.{List, [], _∷_, _++_}
 use mathlib.Core.Bool.{Bool, true, false}
-use borrow.Author.Tests.{ne-eqb}
+use borrow.Author.Tests.{eq-eqb, ne-eqb}
 use lib.Dec.{T, eqb}
-use lib.ListN.{length, getD, drop, drop-of-length-le}
+use lib.ListN.{length, getD, set, drop, drop-of-length-le}
 use lib.Seq.{drop-cons}
-use Prim.Native.Nat.{ℕ, suc, zero, _+_, _-_, _/_, _<_, _≤_}
+use Prim.Native.Nat.{ℕ, suc, zero, _+_, _-_, _*_, _/_, _<_, _≤_}
 use native.Mathlib.Omega.{arith}
 use native.Mathlib.Decide.{decLt}
 use Rattle.term_spec.specs.ListLaws.{All}
@@ -26,7 +26,9 @@ use Rattle.steps.specs.declared.State.{State}
 use Rattle.steps.specs.declared.Move.{Move}
 use Rattle.steps.specs.declared.What.the-variants.{Stop, Next}
 use Rattle.steps.specs.Turn.{Turn, stop, next, split, called, turnIf, turnEnter, turnLeave, turnBind, turnSpread, turnTop, turn}
-use Rattle.steps.specs.State.{levelsOf, entriesOf, turnAs, turnOf, Stands, renamed, coded, codedAll, Fine}
+use Rattle.steps.specs.declared.What.{What}
+use Rattle.steps.specs.State.{stackOf, placeOf, levelsOf, entriesOf, entriesIn, turnAs, turnOf, Known, Place, Stands, LevelsKept, EndsApart, renamed, coded, codedAll, Fine}
+use Rattle.steps.specs.ArrayLaws.{restores-same, restores-two}
 use Rattle.steps.specs.CellLaws.{if-yes, if-no, literal-value, enter-no, enter-yes, takes-record, cells-size, first-none, first-some, empty-yes, empty-no, begins-yes, begins-no, begins-long, run-begins, run-differs}
 
 -- A turn over the terms of a store, what a run of them shows, and a run without its first k terms.
@@ -41,19 +43,27 @@ rest k r = record { start = r .start + k; len = r .len - k }
 
 -- ---- moves ----
 
-pub stopped : (m : Move) (s : State) → m ≡ record { what = Stop; state = s } → turnOf m ≡ stop
+pub stopped : (m : Move) (s : State) (lv bd : List ℕ) → m ≡ record { what = Stop; state = s } → turnOf m lv bd ≡ stop
 unfolding turnAs
-stopped m s e = rw e refl
+stopped m s lv bd e = rw e refl
 
-pub went : (m : Move) (s : State) {ls env : List Run} → m ≡ record { what = Next; state = s } → levelsOf s ≡ ls → entriesOf s ≡ env → turnOf m ≡ next ls env
+pub went : (m : Move) (s : State) (lv bd : List ℕ) {ls env : List Run} → m ≡ record { what = Next; state = s } → levelsOf (placeOf s lv bd) ≡ ls → entriesOf (placeOf s lv bd) ≡ env
+    → turnOf m lv bd ≡ next ls env
 unfolding turnAs
-went m s e p q = rw e (ap₂ next p q)
+went m s lv bd e p q = rw e (ap₂ next p q)
 
--- ---- the state ----
+-- k terms are passed, or given to the next entry.
+module _ (m : Move) (s g : State) (lv : List ℕ) (k : ℕ) (e : m ≡ record { what = Next; state = g }) where
+  pub passed : (bd : List ℕ) → g ≡ record { start = s .start + k; len = s .len - k; depth = s .depth; bound = s .bound }
+      → turnOf m lv bd ≡ next (rest k (record { start = s .start; len = s .len }) ∷ stackOf (s .depth) lv) (entriesIn (s .bound) bd)
+  passed bd p = went m g lv bd e (ap (λ z. levelsOf (placeOf z lv bd)) p) (ap (λ z. entriesOf (placeOf z lv bd)) p)
 
-pub top-in : (used : ℕ) (s : State) → Stands used s → s .start + s .len ≤ used
-unfolding All
-top-in used s h = h .levels-in .0
+  pub gave : (bd after : List ℕ) → g ≡ record { start = s .start + k; len = s .len - k; depth = s .depth; bound = s .bound + 1 }
+      → entriesIn (s .bound + 1) after ≡ entriesIn (s .bound) bd ++ (record { start = s .start; len = k } ∷ [])
+      → turnOf m lv after ≡ next (rest k (record { start = s .start; len = s .len }) ∷ stackOf (s .depth) lv) (entriesIn (s .bound) bd ++ (record { start = s .start; len = k } ∷ []))
+  gave bd after p q = went m g lv after e (ap (λ z. levelsOf (placeOf z lv after)) p) (ap (λ z. entriesOf (placeOf z lv after)) p ∙ q)
+
+-- ---- entries ----
 
 all-getD : (l : List Run) (used n : ℕ) → All (Inside used) l → n < length l → Inside used (getD l n noRun)
 unfolding All
@@ -61,9 +71,25 @@ all-getD [] used n a h = absurd (omega arith)
 all-getD (x ∷ l) used zero a h = a .0
 all-getD (x ∷ l) used (suc n) a h = all-getD l used n (a .1) (omega arith)
 
-pub entry-in : (used : ℕ) (s : State) (x : ℕ) {a b : ℕ} → Stands used s → x < s .bound → record { start = a; len = b } ≡ getD (entriesOf s) x noRun → a + b ≤ used
-entry-in used s x h lt e =
-    subst (λ (z : Run). Inside used z) (sym e) (all-getD (entriesOf s) used x (h .entries-in) (rw decode-length lt))
+pub entry-in : (used n : ℕ) (w : List ℕ) (x : ℕ) {a b : ℕ} → Known used n w → x < n → record { start = a; len = b } ≡ getD (entriesIn n w) x noRun → a + b ≤ used
+entry-in used n w x h lt e =
+    subst (λ (z : Run). Inside used z) (sym e) (all-getD (entriesIn n w) used x (h .entries-in) (rw decode-length lt))
+
+-- ---- the place ----
+
+pub top-in : (used : ℕ) (s : Place) → Stands used s → s .start + s .len ≤ used
+unfolding All
+top-in used s h = h .levels-in .0
+
+-- ---- words of levels ----
+
+-- A move that leaves the levels' words.
+pub levels-same : (d : ℕ) (w : What) (lv : List ℕ) → LevelsKept d w lv lv
+levels-same d w lv = record { back = restores-same d lv; same = λ n. refl }
+
+-- A move that goes on after it wrote level d.
+pub levels-wrote : (d : ℕ) (w : What) (lv after : List ℕ) (a b : ℕ) → w ≡ Next → after ≡ set (set lv (2 * d) a) (2 * d + 1) b → LevelsKept d w lv after
+levels-wrote d w lv after a b e q = record { back = rw q (restores-two d lv a b); same = λ n. absurd (n e) }
 
 -- ---- literals ----
 
@@ -314,6 +340,20 @@ module _ (names : List ℕ) (t : Item) (x : ℕ) where
     pub turn-call : 8 ≤ t .kind → called ≡ turnIn names w used (coded names t x) last ls env
     unfolding turn
     turn-call l = rw (coded-call l) refl
+
+-- ---- a known e-variable that ends its level ----
+
+pub apart-never : {A : Type 0} → false ≡ true → A
+apart-never e = let x : _≡_ {A = ℕ} 0 1 = cc in absurd (omega arith)
+
+pub ends-apart : (kind x : ℕ) (last : Bool) (bound len : ℕ) (w : List ℕ) (e : Run) → kind ≡ 7 → last ≡ true → x < bound → e ≡ getD (entriesIn bound w) x noRun
+    → eqb (e .len) len ≡ false → EndsApart kind x last bound len w
+ends-apart kind x last bound len w e m l k q n = record {
+  many = m;
+  ends = l;
+  known = k;
+  apart = λ z. let y : false ≡ true = sym n ∙ eq-eqb (e .len) len (ap (λ (r : Run). r .len) q ∙ z) in apart-never y;
+}
 
 -- ---- the end of a level ----
 

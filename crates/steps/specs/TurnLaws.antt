@@ -253,3 +253,81 @@ turn-kept names ts valid (one k n) p m last r st env s =
     (kept-bind names ts valid p m r st env (s .level-in) (s .around-in) (s .entries-in) (s .shallow) n (s .sound .0) (s .sound .1) (some-left names ts valid p m r st env w l e) (decLt n (length env))))
 turn-kept names ts valid (many n) p m last r st env s =
     kept-spread names ts valid p m r st env (s .level-in) (s .around-in) (s .entries-in) (s .shallow) n (s .sound .0) (s .sound .1) last _ (decLt n (length env))
+
+-- ---- entries are only added ----
+
+-- Where a turn goes on, at least n entries are known.
+unfoldable pub Grows : {R : Type 0} → ℕ → Turn R → Type 0
+Grows n stop = Unit {0}
+Grows n (next ls new) = n ≤ length new
+Grows n (split q us new) = Unit {0}
+Grows n called = Unit {0}
+
+module _ {R : Type 0} (rd : Reading R) (env : List R) where
+  grows-stop : Grows {R = R} (length env) stop
+  unfolding Grows
+  grows-stop = tt
+
+  grows-same : (ls : List R) → Grows (length env) (next ls env)
+  unfolding Grows
+  grows-same ls = omega arith
+
+  grows-one : (ls : List R) (x : R) → Grows (length env) (next ls (env ++ (x ∷ [])))
+  unfolding Grows
+  grows-one ls x = rw length-append (omega arith)
+
+  grows-if : {P : Type 0} (d : Dec P) (t : Turn R) → Grows (length env) t → Grows (length env) (turnIf d t)
+  unfolding turnIf
+  grows-if (yes h) t k = k
+  grows-if (no h) t k = grows-stop
+
+  grows-enter : (o : Option (List Value)) (t : Turn R) → Grows (length env) t → Grows (length env) (turnEnter o t)
+  unfolding turnEnter
+  grows-enter none t k = grows-stop
+  grows-enter (some l) t k = k
+
+  grows-head : (c : Level) (f : Value → Turn R) → ((v : Value) → Grows (length env) (f v)) → Grows (length env) (turnHead c f)
+  unfolding turnHead
+  grows-head [] f k = grows-stop
+  grows-head (v ∷ c) f k = k v
+
+  grows-first : (ls : List R) (f : Value → R → List R → Turn R) → ((v : Value) (r : R) (st : List R) → Grows (length env) (f v r st)) → Grows (length env) (turnFirst rd ls f)
+  unfolding turnFirst
+  grows-first [] f k = grows-stop
+  grows-first (r ∷ st) f k = grows-head (rd .cells r) _ (λ v. k v r (rd .back 1 r ∷ st))
+
+  grows-empty : (c : Level) (ls : List R) → Grows (length env) (turnEmpty c (next ls env))
+  unfolding turnEmpty
+  grows-empty [] ls = grows-same ls
+  grows-empty (v ∷ c) ls = grows-stop
+
+  grows-leave : (ls : List R) → Grows (length env) (turnLeave rd ls env)
+  unfolding turnLeave
+  grows-leave [] = grows-stop
+  grows-leave (r ∷ []) = grows-stop
+  grows-leave (r ∷ (q ∷ st)) = grows-empty (rd .cells r) (q ∷ st)
+
+  grows-bind : (n : ℕ) (x : R) (st : List R) (d : Dec (n < length env)) → Grows (length env) (turnBind rd n x st env d)
+  unfolding turnBind
+  grows-bind n x st (yes h) = grows-if (sames? (rd .cells (getD env n (rd .nothing))) (rd .cells x)) _ (grows-same st)
+  grows-bind n x st (no h) = grows-one st x
+
+  grows-spread : {P : Type 0} (d : Dec P) (last : Bool) (x r : R) (st : List R) → Grows (length env) (turnSpread rd d last x env r st)
+  unfolding turnSpread Grows
+  grows-spread (yes h) last x r st = grows-enter (strip (rd .cells x) (rd .cells r)) _ (grows-same (rd .back (length (rd .cells x)) r ∷ st))
+  grows-spread (no h) true x r st = grows-one (rd .back (length (rd .cells r)) r ∷ st) r
+  grows-spread (no h) false x r st = tt
+
+  grows-top : (ls : List R) (g : R → List R → Turn R) → ((r : R) (st : List R) → Grows (length env) (g r st)) → Grows (length env) (turnTop ls g)
+  unfolding turnTop
+  grows-top [] g k = grows-stop
+  grows-top (r ∷ st) g k = k r st
+
+  pub turn-grows : (e : Element ℕ) (last : Bool) (ls : List R) → Grows (length env) (turn rd e last ls env)
+  unfolding turn Grows
+  turn-grows (lit v) last ls = grows-first ls _ (λ w r st. grows-if (same? v w) _ (grows-same st))
+  turn-grows opening last ls = grows-first ls _ (λ w r st. grows-enter (contents w) _ (grows-same (rd .inner r ∷ st)))
+  turn-grows closing last ls = grows-leave ls
+  turn-grows call last ls = tt
+  turn-grows (one k n) last ls = grows-first ls _ (λ w r st. grows-if (takes? k w) _ (grows-bind n _ st (decLt n (length env))))
+  turn-grows (many n) last ls = grows-top ls _ (λ r st. grows-spread (decLt n (length env)) last _ r st)

@@ -5,10 +5,10 @@ use words::Run;
 use words::Term;
 ghost use mathlib.Core.Path.{_≡_};
 ghost use mathlib.Core.List.{List, [], _∷_, _++_};
-ghost use mathlib.Core.Bool.{Bool};
+ghost use mathlib.Core.Bool.{Bool, true};
 ghost use Prim.Native.Nat.{ℕ, _+_, _-_, _*_, _<_, _≤_};
 ghost use lib.Dec.{T};
-ghost use lib.ListN.{length, getD, drop};
+ghost use lib.ListN.{length, getD, set, drop};
 ghost use Rattle.term_spec.specs.Words.{decode, records};
 ghost use Rattle.term_spec.specs.Term.{termLayout};
 ghost use Rattle.match_spec.specs.Pattern.{itemLayout, itemRuleK};
@@ -18,18 +18,22 @@ ghost use Rattle.items.specs.Records.{asItem};
 ghost use Rattle.match_spec.specs.Element.{opening, closing, many};
 ghost use Rattle.steps.specs.declared.What.the-variants.{Stop, Next};
 ghost use Rattle.steps.specs.Turn.{turn};
-ghost use Rattle.steps.specs.State.{levelsOf, entriesOf, stackOf, turnOf, Stands, coded, codedAll, Fine};
+ghost use Rattle.steps.specs.State.{placeOf, levelsOf, entriesOf, entriesIn, turnOf, Known, Stands, LevelsKept, EndsApart, coded, codedAll, Fine};
 
-// Where the walk stands: what is left of the innermost level, the levels around it (a run each, the outermost first), and the run that each
-// known entry was given.
+// Where the walk stands: what is left of the innermost level, how many levels are around it, and how many entries are known. The runs of
+// these levels (the outermost first) and entries are in lent words, two to a run: nothing large goes by value.
 pub struct State {
     pub start: usize,
     pub len: usize,
     pub depth: usize,
     pub bound: usize,
-    pub levels: [u32; 64],
-    pub binds: [u32; 128],
 }
+
+// The words of the levels: 32, and the place after them that a record at full depth would use.
+pub const LEVEL_WORDS: usize = 66;
+
+// The words of the entries: 64 runs.
+pub const ENTRY_WORDS: usize = 128;
 
 // What a record does: nothing fits, it goes on, it is split, it is a Call or Block.
 pub enum What {
@@ -48,37 +52,38 @@ pub struct Move {
 // k terms of the innermost level are passed.
 pub fn pass(s: State, k: usize) -> State
     requires { ⌜ (k ≤ s .len) × (s .start + s .len ≤ 65536) ⌝ }
-    ensures { λ r. ⌜ (levelsOf r ≡ record { start = s .start + k; len = s .len - k } ∷ stackOf (s .depth) (s .levels)) × (entriesOf r ≡ entriesOf s) × (r .depth ≡ s .depth) × (r .bound ≡ s .bound) ⌝ }
+    ensures { λ r. ⌜ r ≡ record { start = s .start + k; len = s .len - k; depth = s .depth; bound = s .bound } ⌝ }
 {
-    let mut t = s;
-    t.start = s.start + k;
-    t.len = s.len - k;
-    t
+    State {
+        start: s.start + k,
+        len: s.len - k,
+        depth: s.depth,
+        bound: s.bound,
+    }
 }
 
 // The next entry gets the first k terms of the innermost level, which are passed.
-pub fn give(s: State, k: usize) -> State
-    requires { ⌜ (k ≤ s .len) × (s .start + s .len ≤ 65536) × (s .bound < 64) ⌝ }
-    ensures { λ r. ⌜ (levelsOf r ≡ record { start = s .start + k; len = s .len - k } ∷ stackOf (s .depth) (s .levels)) × (entriesOf r ≡ entriesOf s ++ (record { start = s .start; len = k } ∷ [])) × (r .depth ≡ s .depth) × (r .bound ≡ s .bound + 1) ⌝ }
+pub fn give(s: State, k: usize, binds: &mut [u32]) -> State
+    requires { ⌜ (k ≤ s .len) × (s .start + s .len ≤ 65536) × (s .bound < 64) × (128 ≤ length (now binds)) ⌝ }
+    ensures { λ r. ⌜ (r ≡ record { start = s .start + k; len = s .len - k; depth = s .depth; bound = s .bound + 1 }) × (entriesIn (s .bound + 1) (now (binds .exit)) ≡ entriesIn (s .bound) (now (binds .entry)) ++ (record { start = s .start; len = k } ∷ [])) ⌝ }
 {
-    let start = s.start;
     let i = s.bound;
-    let mut t = pass(s, k);
-    t.bound = i + 1;
-    t.binds[2 * i] = start as u32;
-    t.binds[2 * i + 1] = k as u32;
-    t
+    words::set_word(binds, 2 * i, s.start);
+    words::set_word(binds, 2 * i + 1, k);
+    State {
+        start: s.start + k,
+        len: s.len - k,
+        depth: s.depth,
+        bound: i + 1,
+    }
 }
 
 // The run that entry x was given.
-pub fn entry(s: State, x: usize) -> Run
-    requires { ⌜ (x < s .bound) × (s .bound ≤ 64) ⌝ }
-    ensures { λ r. ⌜ record { start = r .start; len = r .len } ≡ getD (entriesOf s) x (record { start = 0; len = 0 }) ⌝ }
+pub fn entry(binds: &[u32], x: usize) -> Run
+    requires { ⌜ 2 * x + 2 ≤ length (now binds) ⌝ }
+    ensures { λ r. ⌜ ((n : ℕ) → x < n → record { start = r .start; len = r .len } ≡ getD (entriesIn n (now (binds .entry))) x (record { start = 0; len = 0 })) ⌝ }
 {
-    Run {
-        start: s.binds[2 * x] as usize,
-        len: s.binds[2 * x + 1] as usize,
-    }
+    words::get_run(binds, x)
 }
 
 fn stop(s: State) -> Move
@@ -101,9 +106,9 @@ fn next(s: State) -> Move
 
 // A literal: the first term equals it.
 fn step_literal(names: &[u8], terms: &[u32], used: usize, t: Item, s: State) -> Move
-    requires { ⌜ Store (now names) (now terms) used × (used ≤ 65536) × Stands used s ⌝ }
+    requires { ⌜ Store (now names) (now terms) used × (used ≤ 65536) × (s .start + s .len ≤ used) ⌝ }
     requires { ⌜ T (itemRuleK (t .kind) (now names) (asItem t)) × (t .kind < 3) ⌝ }
-    ensures { λ r. ⌜ ((x : ℕ) (last : Bool) → turnOf r ≡ turn (runs (now (names .entry)) (decode termLayout used (now (terms .entry)))) (coded (now (names .entry)) (asItem t) x) last (levelsOf s) (entriesOf s)) ⌝ }
+    ensures { λ r. ⌜ ((x : ℕ) (last : Bool) (lv bd : List ℕ) → turnOf r lv bd ≡ turn (runs (now (names .entry)) (decode termLayout used (now (terms .entry)))) (coded (now (names .entry)) (asItem t) x) last (levelsOf (placeOf s lv bd)) (entriesOf (placeOf s lv bd))) ⌝ }
 {
     if s.len == 0 {
         return stop(s);
@@ -122,9 +127,9 @@ fn step_literal(names: &[u8], terms: &[u32], used: usize, t: Item, s: State) -> 
 }
 
 // An Open: the first term is a bracket, whose contents become the innermost level.
-fn step_open(names: &[u8], terms: &[u32], used: usize, s: State) -> Move
-    requires { ⌜ Store (now names) (now terms) used × (used ≤ 65536) × Stands used s × (s .depth < 32) ⌝ }
-    ensures { λ r. ⌜ ((last : Bool) → turnOf r ≡ turn (runs (now (names .entry)) (decode termLayout used (now (terms .entry)))) opening last (levelsOf s) (entriesOf s)) ⌝ }
+fn step_open(names: &[u8], terms: &[u32], used: usize, s: State, levels: &mut [u32]) -> Move
+    requires { ⌜ Store (now names) (now terms) used × (used ≤ 65536) × (s .start + s .len ≤ used) × (s .depth < 32) × (66 ≤ length (now levels)) ⌝ }
+    ensures { λ r. ⌜ ((last : Bool) (bd : List ℕ) → turnOf r (now (levels .exit)) bd ≡ turn (runs (now (names .entry)) (decode termLayout used (now (terms .entry)))) opening last (levelsOf (placeOf s (now (levels .entry)) bd)) (entriesOf (placeOf s (now (levels .entry)) bd))) × LevelsKept (s .depth) (r .what) (now (levels .entry)) (now (levels .exit)) ⌝ }
 {
     if s.len == 0 {
         return stop(s);
@@ -134,40 +139,46 @@ fn step_open(names: &[u8], terms: &[u32], used: usize, s: State) -> Move
         return stop(s);
     }
     let d = s.depth;
-    let start = s.start + 1;
-    let len = s.len - 1;
-    let mut t = s;
-    t.levels[2 * d] = start as u32;
-    t.levels[2 * d + 1] = len as u32;
-    t.depth = d + 1;
-    t.start = u.a;
-    t.len = u.b;
-    next(t)
+    words::set_word(levels, 2 * d, s.start + 1);
+    words::set_word(levels, 2 * d + 1, s.len - 1);
+    next(State {
+        start: u.a,
+        len: u.b,
+        depth: d + 1,
+        bound: s.bound,
+    })
 }
 
 // A Close: the innermost level has ended.
-fn step_close(names: &[u8], terms: &[u32], used: usize, s: State) -> Move
-    requires { ⌜ (used * 4 ≤ length (now terms)) × (used ≤ 65536) × Stands used s × (1 ≤ s .depth) ⌝ }
-    ensures { λ r. ⌜ ((last : Bool) → turnOf r ≡ turn (runs (now (names .entry)) (decode termLayout used (now (terms .entry)))) closing last (levelsOf s) (entriesOf s)) ⌝ }
+fn step_close(names: &[u8], terms: &[u32], used: usize, s: State, levels: &[u32]) -> Move
+    requires { ⌜ (s .start + s .len ≤ used) × (1 ≤ s .depth) × (s .depth ≤ 32) × (66 ≤ length (now levels)) ⌝ }
+    ensures { λ r. ⌜ ((last : Bool) (bd : List ℕ) → turnOf r (now (levels .entry)) bd ≡ turn (runs (now (names .entry)) (decode termLayout used (now (terms .entry)))) closing last (levelsOf (placeOf s (now (levels .entry)) bd)) (entriesOf (placeOf s (now (levels .entry)) bd))) ⌝ }
 {
     if s.len != 0 {
         return stop(s);
     }
-    let d = s.depth - 1;
-    let start = s.levels[2 * d];
-    let len = s.levels[2 * d + 1];
-    let mut t = s;
-    t.depth = d;
-    t.start = start as usize;
-    t.len = len as usize;
-    next(t)
+    let around = words::get_run(levels, s.depth - 1);
+    next(State {
+        start: around.start,
+        len: around.len,
+        depth: s.depth - 1,
+        bound: s.bound,
+    })
 }
 
 // An s- or t-variable (row 0 or 1): it takes the first term; a known one must be equal to it.
-fn step_single(names: &[u8], terms: &[u32], used: usize, t: Item, x: usize, s: State) -> Move
-    requires { ⌜ Store (now names) (now terms) used × (used ≤ 65536) × Stands used s ⌝ }
+fn step_single(
+    names: &[u8],
+    terms: &[u32],
+    used: usize,
+    t: Item,
+    x: usize,
+    s: State,
+    binds: &mut [u32],
+) -> Move
+    requires { ⌜ Store (now names) (now terms) used × (used ≤ 65536) × (s .start + s .len ≤ used) × Known used (s .bound) (now binds) ⌝ }
     requires { ⌜ (5 ≤ t .kind) × (t .kind ≤ 6) × (x ≤ s .bound) × (x < 64) ⌝ }
-    ensures { λ r. ⌜ ((last : Bool) → turnOf r ≡ turn (runs (now (names .entry)) (decode termLayout used (now (terms .entry)))) (coded (now (names .entry)) (asItem t) x) last (levelsOf s) (entriesOf s)) ⌝ }
+    ensures { λ r. ⌜ ((last : Bool) (lv : List ℕ) → turnOf r lv (now (binds .exit)) ≡ turn (runs (now (names .entry)) (decode termLayout used (now (terms .entry)))) (coded (now (names .entry)) (asItem t) x) last (levelsOf (placeOf s lv (now (binds .entry)))) (entriesOf (placeOf s lv (now (binds .entry))))) × (entriesIn (s .bound) (now (binds .exit)) ≡ entriesIn (s .bound) (now (binds .entry))) ⌝ }
 {
     if s.len == 0 {
         return stop(s);
@@ -177,41 +188,69 @@ fn step_single(names: &[u8], terms: &[u32], used: usize, t: Item, x: usize, s: S
         return stop(s);
     }
     if s.bound <= x {
-        return next(give(s, 1));
+        return next(give(s, 1, binds));
     }
-    let e = entry(s, x);
-    if !value::equal_runs(names, terms, used, e.start, e.len, s.start, 1) {
+    let e = entry(binds, x);
+    if !equality::equal_runs(names, terms, used, e.start, e.len, s.start, 1) {
         return stop(s);
     }
     next(pass(s, 1))
 }
 
 // An e-variable: a known one must equal the terms ahead; one that ends its level takes what remains; an open one is split.
-fn step_expression(names: &[u8], terms: &[u32], used: usize, x: usize, last: bool, s: State) -> Move
-    requires { ⌜ Store (now names) (now terms) used × (used ≤ 65536) × Stands used s ⌝ }
+fn step_expression(
+    names: &[u8],
+    terms: &[u32],
+    used: usize,
+    x: usize,
+    last: bool,
+    s: State,
+    binds: &mut [u32],
+) -> Move
+    requires { ⌜ Store (now names) (now terms) used × (used ≤ 65536) × (s .start + s .len ≤ used) × Known used (s .bound) (now binds) ⌝ }
     requires { ⌜ (x ≤ s .bound) × (x < 64) ⌝ }
-    ensures { λ r. ⌜ turnOf r ≡ turn (runs (now (names .entry)) (decode termLayout used (now (terms .entry)))) (many x) last (levelsOf s) (entriesOf s) ⌝ }
+    ensures { λ r. ⌜ ((lv : List ℕ) → turnOf r lv (now (binds .exit)) ≡ turn (runs (now (names .entry)) (decode termLayout used (now (terms .entry)))) (many x) last (levelsOf (placeOf s lv (now (binds .entry)))) (entriesOf (placeOf s lv (now (binds .entry))))) × (entriesIn (s .bound) (now (binds .exit)) ≡ entriesIn (s .bound) (now (binds .entry))) ⌝ }
 {
     if s.bound <= x {
         if last {
-            return next(give(s, s.len));
+            return next(give(s, s.len, binds));
         }
         return Move {
             what: What::Split,
             state: s,
         };
     }
-    let e = entry(s, x);
+    let e = entry(binds, x);
     if s.len < e.len {
         return stop(s);
     }
-    if !value::equal_runs(names, terms, used, e.start, e.len, s.start, e.len) {
+    if !equality::equal_runs(names, terms, used, e.start, e.len, s.start, e.len) {
         return stop(s);
     }
     next(pass(s, e.len))
 }
 
-// What a record does, x being the number of its name; `last` says whether its level ends after it.
+// Whether a record is a known e-variable that ends its level with another number of terms than are left: then no try fits, and the terms need
+// not be compared.
+pub fn ends_apart(kind: usize, x: usize, last: bool, s: State, binds: &[u32]) -> bool
+    requires { ⌜ (s .bound ≤ 64) × (128 ≤ length (now binds)) ⌝ }
+    ensures { λ r. ⌜ (r ≡ true → EndsApart kind x last (s .bound) (s .len) (now (binds .entry))) ⌝ }
+{
+    if kind != 7 {
+        return false;
+    }
+    if !last {
+        return false;
+    }
+    if s.bound <= x {
+        return false;
+    }
+    let e = entry(binds, x);
+    e.len != s.len
+}
+
+// What a record does, x being the number of its name; `last` says whether its level ends after it. Of the levels it writes the place after
+// those around, and only where it goes on; of the entries the next one.
 pub fn step(
     names: &[u8],
     terms: &[u32],
@@ -220,30 +259,41 @@ pub fn step(
     x: usize,
     last: bool,
     s: State,
+    levels: &mut [u32],
+    binds: &mut [u32],
 ) -> Move
-    requires { ⌜ Store (now names) (now terms) used × (used ≤ 65536) × Stands used s ⌝ }
+    requires { ⌜ Store (now names) (now terms) used × (used ≤ 65536) × Stands used (placeOf s (now levels) (now binds)) ⌝ }
     requires { ⌜ T (itemRuleK (t .kind) (now names) (asItem t)) × Fine (t .kind) x (s .depth) (s .bound) ⌝ }
-    ensures { λ r. ⌜ turnOf r ≡ turn (runs (now (names .entry)) (decode termLayout used (now (terms .entry)))) (coded (now (names .entry)) (asItem t) x) last (levelsOf s) (entriesOf s) ⌝ }
+    ensures { λ r. ⌜ (turnOf r (now (levels .exit)) (now (binds .exit)) ≡ turn (runs (now (names .entry)) (decode termLayout used (now (terms .entry)))) (coded (now (names .entry)) (asItem t) x) last (levelsOf (placeOf s (now (levels .entry)) (now (binds .entry)))) (entriesOf (placeOf s (now (levels .entry)) (now (binds .entry))))) × LevelsKept (s .depth) (r .what) (now (levels .entry)) (now (levels .exit)) × (entriesIn (s .bound) (now (binds .exit)) ≡ entriesIn (s .bound) (now (binds .entry))) ⌝ }
 {
     if t.kind < 3 {
         return step_literal(names, terms, used, t, s);
     }
     if t.kind == 3 {
-        return step_open(names, terms, used, s);
+        return step_open(names, terms, used, s, levels);
     }
     if t.kind == 4 {
-        return step_close(names, terms, used, s);
+        return step_close(names, terms, used, s, levels);
     }
     if t.kind < 7 {
-        return step_single(names, terms, used, t, x, s);
+        return step_single(names, terms, used, t, x, s, binds);
     }
     if t.kind == 7 {
-        return step_expression(names, terms, used, x, last, s);
+        return step_expression(names, terms, used, x, last, s, binds);
     }
     Move {
         what: What::Call,
         state: s,
     }
+}
+
+// The two words of level d become what they were before an Open wrote them.
+pub fn put_back(levels: &mut [u32], d: usize, start: u32, len: u32)
+    requires { ⌜ (d ≤ 32) × (66 ≤ length (now levels)) ⌝ }
+    ensures { λ _. ⌜ now (levels .exit) ≡ set (set (now (levels .entry)) (2 * d) start) (2 * d + 1) len ⌝ }
+{
+    levels[2 * d] = start;
+    levels[2 * d + 1] = len;
 }
 
 // Whether a level ends before record p.

@@ -1,10 +1,10 @@
 // Answers as document 01's numbers, with their values in out parameters. An out parameter is written where the answer has a value for it, and
 // left alone by a refusal.
+use equality::Compared;
 use listing::Matched;
 use sheet_read::Counts;
 use sheet_read::SheetRead;
 use sheet_write::Written;
-use value::Compared;
 use view::Answer;
 use view_read::Flat;
 use view_read::Verdict;
@@ -14,7 +14,7 @@ ghost use Rattle.sheet_spec.specs.Sheet.{countsAt, readSheet};
 ghost use Rattle.sheet_spec.specs.Job.{counted, readInto};
 ghost use Rattle.sheet_read.specs.Read.{asCounts};
 ghost use Rattle.sheet_write.specs.Write.{writtenOf};
-ghost use Rattle.value.specs.Equal.{answerOf as comparedOf};
+ghost use Rattle.equality.specs.Compare.{answerOf as comparedOf};
 ghost use Rattle.view.specs.Check.{answerOf};
 ghost use Rattle.view_read.specs.Read.{verdictOf, flatOf};
 ghost use Rattle.listing.specs.Match.{matchedOf};

@@ -1,7 +1,7 @@
 // 01's trial messages that are run rather than proved, as far as terms go, and the limits of every word of every kind of term. Each line is a
 // case and its answer: a refusal's number or 0; for a comparison `equal`, `different` or the number; for a variable a digit for each kind of
 // term, 1 where it takes it.
-use value::Compared;
+use equality::Compared;
 use words::Term;
 ghost use mathlib.Core.Path.{_≡_};
 ghost use Prim.Native.Nat.{_+_, _<_, _≤_};
@@ -230,7 +230,7 @@ fn compare(case: &[u8], used: usize, s: usize, n: usize, p: usize, m: usize) {
     let terms = COMPARED;
     tell(
         case,
-        value::compare_runs(b"DayDAY007", &terms, used, s, n, p, m),
+        equality::compare_runs(b"DayDAY007", &terms, used, s, n, p, m),
     );
 }
 
@@ -263,11 +263,11 @@ fn chains() {
     }
     tell(
         b"Brackets 255 deep on others",
-        value::compare_runs(b"", &terms, 510, 254, 1, 509, 1),
+        equality::compare_runs(b"", &terms, 510, 254, 1, 509, 1),
     );
     tell(
         b"Brackets 255 deep on 254 deep",
-        value::compare_runs(b"", &terms, 510, 254, 1, 508, 1),
+        equality::compare_runs(b"", &terms, 510, 254, 1, 508, 1),
     );
 }
 

@@ -1,16 +1,16 @@
 -- Laws of a store's rules, one for each exit of the code that decides them: the rule as what the tests on the way say of it.
-use mathlib.Core.Path.{_≡_, refl, ap, ap₂, sym, _∙_}
-use mathlib.Core.List.{List, [], _∷_, _++_}
+use mathlib.Core.Path.{_≡_, refl, ap, sym, _∙_}
+use mathlib.Core.List.{List, [], _∷_}
 use mathlib.Core.Bool.{Bool, true, false, _&&_}
 use borrow.Author.Tests.{le-leb, lt-leb, eq-eqb, ne-eqb}
 use lib.Dec.{leb, eqb}
 use lib.ListN.{length, drop}
 use lib.Seq.{drop-cons, drop-length}
-use Prim.Native.Nat.{ℕ, suc, zero, _+_, _*_, _/_, _%_, _<_, _≤_, max, min}
+use Prim.Native.Nat.{ℕ, suc, zero, _+_, _/_, _%_, _<_, _≤_, min}
 use native.Mathlib.Numerals.{add-one}
 use native.Mathlib.Omega.{arith}
 use Rattle.term_spec.specs.Words.{decode, recordAt, count, whole}
-use Rattle.term_spec.specs.WordsLaws.{decode-at, decode-length, decode-part, decode-snoc, record-drop}
+use Rattle.term_spec.specs.WordsLaws.{decode-at, decode-length, decode-part, decode-snoc}
 use Rattle.term_spec.specs.Text.{textRule}
 use Rattle.term_spec.specs.Term.{Term, noTerm, termLayout, isScalar, depthK, deepest, bracketRule, symbolRule, termRuleK, termRule, termsRule}
 use Rattle.text.specs.Texts.{spelling}
@@ -29,24 +29,6 @@ depth-other (suc zero) t h = refl
 depth-other (suc (suc zero)) t h = refl
 depth-other (suc (suc (suc zero))) t h = absurd (h refl)
 depth-other (suc (suc (suc (suc k)))) t h = refl
-
-pub deepest-none : (w : List ℕ) (s : ℕ) → 0 ≡ deepest (runOf w s 0)
-unfolding deepest runOf decode
-deepest-none w s = refl
-
-deepest-snoc : (ts : List Term) (t : Term) → deepest (ts ++ (t ∷ [])) ≡ max (deepest ts) (depthK (t .kind) t)
-unfolding deepest
-deepest-snoc [] t = omega arith
-deepest-snoc (u ∷ ts) t = omega (arith, deepest-snoc ts t)
-
--- a run with one term more, and its deepest bracket
-run-snoc : (w : List ℕ) (s i : ℕ) → runOf w s (suc i) ≡ runOf w s i ++ (recordAt termLayout w (s + i) ∷ [])
-unfolding runOf
-run-snoc w s i = decode-snoc termLayout i (drop (s * 4) w) ∙ ap (λ t. decode termLayout i (drop (s * 4) w) ++ (t ∷ [])) (record-drop termLayout s i w)
-
-pub deepest-more : (w : List ℕ) (s i : ℕ) (t : Term) {deep d more : ℕ} → deep ≡ deepest (runOf w s i) → t ≡ recordAt termLayout w (s + i) → d ≡ depthK (t .kind) t
-    → more ≡ max deep d → more ≡ deepest (runOf w s (i + 1))
-deepest-more w s i t p q r m = m ∙ ap₂ max p r ∙ rw (add-one, run-snoc, ← q) (sym (deepest-snoc (runOf w s i) t))
 
 -- ---- a bracket ----
 
@@ -135,14 +117,14 @@ module _ (names w : List ℕ) (used : ℕ) where
   unfolding restRule decode
   rest-all = refl
 
-  pub rest-more : (i : ℕ) {b : Bool} → i < used → termRule names (decode termLayout i w) (recordAt termLayout w i) ≡ b
+  pub rest-more : (i : ℕ) {t : Term} {b : Bool} → i < used → t ≡ recordAt termLayout w i → termRule names (decode termLayout i w) t ≡ b
       → restRule names w used i ≡ b && restRule names w used (i + 1)
   unfolding restRule termsRule
-  rest-more i h e =
+  rest-more i h r e =
       let ts = decode termLayout used w in
       let d : drop i ts ≡ recordAt termLayout w i ∷ drop (suc i) ts =
       drop-cons ts i noTerm (omega (arith, decode-length termLayout used w)) ∙ ap (_∷ drop (suc i) ts) (decode-at termLayout used i w noTerm h) in
-      rw (add-one, d, termsRule, e, ← decode-snoc termLayout i w) refl
+      rw (add-one, d, termsRule, ← r, e, r, ← decode-snoc termLayout i w) refl
 
   pub rest-none : restRule names w used used ≡ true
   unfolding restRule termsRule

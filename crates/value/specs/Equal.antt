@@ -1,15 +1,12 @@
 -- What equality of terms and runs answers: whether the canonical forms are the same.
 use mathlib.Core.List.{List, []}
-use mathlib.Core.Bool.{Bool, true, false, _&&_}
-use lib.Dec.{T, leb}
+use mathlib.Core.Bool.{Bool}
+use lib.Dec.{T}
 use lib.ListN.{length, getD}
 use Prim.Native.Nat.{ℕ, suc, zero, _+_, _*_, _≤_}
 use Rattle.term_spec.specs.Words.{decode}
 use Rattle.term_spec.specs.Term.{Term, termLayout, part, termsRule}
 use Rattle.term_spec.specs.Value.{Value, char, valueOf, values, canon, forms, same?, sames?, isYes}
-use Rattle.value.specs.declared.Compared.{Compared}
-use Rattle.value.specs.declared.Compared.the-variants.{Equal, Different, Refused}
-use Rattle.value.specs.Check.{termsNumber}
 
 -- A store whose used terms are there and within their rules.
 pub record Store (names w : List ℕ) (used : ℕ) : Type 0 where
@@ -44,18 +41,3 @@ equalAt names w used i j = isYes (same? (canon (getD (valuesIn names w used) i (
 unfoldable pub equalRuns : List ℕ → List ℕ → ℕ → ℕ → ℕ → ℕ → ℕ → Bool
 equalRuns names w used s n p m =
     isYes (sames? (forms (part (valuesIn names w used) (record { start = s; len = n }))) (forms (part (valuesIn names w used) (record { start = p; len = m }))))
-
--- 01's number and the answer for each case of the enum.
-unfoldable pub answerOf : Compared → ℕ × Bool
-answerOf Equal = (0, true)
-answerOf Different = (0, false)
-answerOf (Refused n) = (n, false)
-
--- Comparing two runs of any store: the first of 1, 2 and 5 that applies, or 0 and whether they are equal.
-unfoldable pub decidedBy : ℕ → Bool → Bool → ℕ × Bool
-decidedBy zero true b = (0, b)
-decidedBy zero false b = (5, false)
-decidedBy (suc n) inside b = (suc n, false)
-
-unfoldable pub comparedRuns : List ℕ → List ℕ → ℕ → ℕ → ℕ → ℕ → ℕ → ℕ × Bool
-comparedRuns names w used s n p m = decidedBy (termsNumber names w used) (leb (s + n) used && leb (p + m) used) (equalRuns names w used s n p m)

@@ -2,7 +2,7 @@
 use mathlib.Core.Path.{_≡_, refl, ap, ap₂, sym, _∙_}
 use mathlib.Core.List.{List, [], _∷_}
 use mathlib.Core.Bool.{Bool, true, false, _&&_, _||_}
-use borrow.Author.Tests.{eq-eqb, ne-eqb, le-leb, lt-leb}
+use borrow.Author.Tests.{eq-eqb, ne-eqb}
 use lib.Dec.{T, leb, eqb, leb→le, eqb→eq, eqb·suc-zero}
 use lib.ListN.{length, getD, take, drop, length-map}
 use lib.Seq.{drop-cons, getD-take, getD-drop}
@@ -22,7 +22,7 @@ use Rattle.term_spec.specs.ValueLaws.{canon-bracketed, equal-brackets, equal-co
 use Rattle.text.specs.Texts.{identifiersEqual, numbersEqual}
 use Rattle.value.specs.Check.{unless, termsCounts, termsNumber}
 use Rattle.value.specs.CheckLaws.{depth-bracket}
-use Rattle.value.specs.Equal.{Store, InNames, Texts, equalSymbols, valuesIn, equalAt, equalRuns, decidedBy, comparedRuns}
+use Rattle.value.specs.Equal.{Store, InNames, Texts, equalSymbols, valuesIn, equalAt, equalRuns}
 
 -- ---- kinds ----
 
@@ -301,34 +301,19 @@ module _ (names w : List ℕ) (used : ℕ) where
   unfolding runsFrom equalRuns
   runs-none s n p k h = let e : n - k ≡ 0 = omega arith in rw e (is-yes _ refl)
 
-  -- ---- comparing two runs of any store ----
+  -- ---- a store that no number refuses ----
 
-  -- a store that no number refuses
-  pub store-of : {number : ℕ} → number ≡ termsNumber names w used → number ≡ 0 → Store names w used
-  unfolding termsNumber termsCounts
-  store-of e z =
-      let (counts, good) = within-rules (termsCounts names w used) (termsRule names [] (decode termLayout used w)) (sym e ∙ z) in
-      let some : used ≤ min (count termLayout w) limit = leb→le _ _ (both-of (whole termLayout w && leb (length names) limit) (leb used (min (count termLayout w) limit)) counts .1) in
-      record { fits = count-fits termLayout term-lays w used (omega arith); good = good }
+  module _ {number : ℕ} (e : number ≡ termsNumber names w used) (z : number ≡ 0) where
+    within : T (termsCounts names w used) × T (termsRule names [] (decode termLayout used w))
+    unfolding termsNumber
+    within = within-rules (termsCounts names w used) (termsRule names [] (decode termLayout used w)) (sym e ∙ z)
 
-  module _ (s n p m : ℕ) {number : ℕ} (e : number ≡ termsNumber names w used) where
-    pub compared-refused : (number ≡ 0 → ⊥) → (number, false) ≡ comparedRuns names w used s n p m
-    unfolding comparedRuns decidedBy
-    compared-refused h = rw (← e) (refused number h)
-      where
-        refused : (k : ℕ) → (k ≡ 0 → ⊥) → (k, false) ≡ decidedBy k (leb (s + n) used && leb (p + m) used) (equalRuns names w used s n p m)
-        refused zero h = absurd (h refl)
-        refused (suc k) h = refl
+    counted : used ≤ min (count termLayout w) limit
+    unfolding termsCounts
+    counted = leb→le _ _ (both-of (whole termLayout w && leb (length names) limit) (leb used (min (count termLayout w) limit)) (within .0) .1)
 
-    module _ (z : number ≡ 0) where
-      pub compared-first : used < s + n → (5, false) ≡ comparedRuns names w used s n p m
-      unfolding comparedRuns decidedBy
-      compared-first h = rw (← e, z, lt-leb _ _ h) refl
+    pub store-few : used ≤ limit
+    store-few = omega (arith, counted)
 
-      pub compared-second : s + n ≤ used → used < p + m → (5, false) ≡ comparedRuns names w used s n p m
-      unfolding comparedRuns decidedBy
-      compared-second k h = rw (← e, z, le-leb _ _ k, lt-leb _ _ h) refl
-
-      pub compared-both : {b : Bool} → s + n ≤ used → p + m ≤ used → b ≡ equalRuns names w used s n p m → (0, b) ≡ comparedRuns names w used s n p m
-      unfolding comparedRuns decidedBy
-      compared-both k h q = rw (← e, z, le-leb _ _ k, le-leb _ _ h, ← q) refl
+    pub store-of : Store names w used
+    store-of = record { fits = count-fits termLayout term-lays w used (omega (arith, counted)); good = within .1 }

@@ -1,4 +1,6 @@
 pub mod Check
 pub mod CheckLaws
+pub mod Blocks
+pub mod BlockLaws
 pub mod Equal
 pub mod EqualLaws

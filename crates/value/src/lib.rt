@@ -1,15 +1,16 @@
-// Terms in code: the rules of a term store, equality of terms and runs, literals against terms. From value.rs (`Value`, equality) and
-// matcher.rs (`symbol_matches`); records and their rules are the port's.
+// Terms in code: the rules of a term store, equality of symbols, literals against terms. From value.rs (`Value`, equality) and matcher.rs
+// (`symbol_matches`); records and their rules are the port's. Equality of terms and runs is in crate equality.
 use words::Term;
 ghost use mathlib.Core.Path.{_≡_};
 ghost use mathlib.Core.List.{[]};
-ghost use Prim.Native.Nat.{_+_, _*_, _<_, _≤_, max};
+ghost use Prim.Native.Nat.{_+_, _*_, _/_, _<_, _≤_, max};
 ghost use lib.ListN.{length};
-ghost use Rattle.term_spec.specs.Words.{decode, recordAt};
+ghost use Rattle.term_spec.specs.Words.{decode};
 ghost use Rattle.term_spec.specs.Term.{termLayout, isScalar, depthK, deepest as deepestOf, bracketRule, symbolRule, termRule, termsRule};
 ghost use Rattle.words.specs.Records.{asTerm};
 ghost use Rattle.value.specs.Check.{runOf, termsNumber};
-ghost use Rattle.value.specs.Equal.{Store, Texts, equalSymbols, equalAt, equalRuns, comparedRuns, answerOf};
+ghost use Rattle.value.specs.Blocks.{Blocks, deepened, Tables};
+ghost use Rattle.value.specs.Equal.{Texts, equalSymbols};
 
 // ---- the rules of a term store ----
 
@@ -66,24 +67,103 @@ fn larger(a: usize, b: usize) -> usize
     a
 }
 
+// Tables have the deepest bracket of each block of terms, so that a bracket's contents are not read term by term: `low` has it for
+// blocks of 32, `high` for blocks of 1,024. A bracket costs fewer than 190 reads.
+
+fn wide(x: u8) -> usize
+    ensures { λ r. ⌜ r ≡ x ⌝ }
+{
+    x as usize
+}
+
+// Entry k of a table becomes d where d is deeper.
+fn deepen(table: &mut [u8], k: usize, d: usize)
+    requires { ⌜ (k < length (now table)) × (d < 256) ⌝ }
+    ensures { λ _. ⌜ now (table .exit) ≡ deepened (now (table .entry)) k d ⌝ }
+{
+    if wide(table[k]) < d {
+        table[k] = d as u8;
+    }
+}
+
+// Term i goes into the tables: its depth counts in its low and its high block. Only a bracket has one.
+fn enter(low: &mut [u8], high: &mut [u8], i: usize, t: Term)
+    requires { ⌜ (i < length (now low) * 32) × (i < length (now high) * 1024) × (depthK (t .kind) (asTerm t) < 256) ⌝ }
+    ensures { λ _. ⌜ now (low .exit) ≡ deepened (now (low .entry)) (i / 32) (depthK (t .kind) (asTerm t)) ⌝ }
+    ensures { λ _. ⌜ now (high .exit) ≡ deepened (now (high .entry)) (i / 1024) (depthK (t .kind) (asTerm t)) ⌝ }
+{
+    if t.kind != 3 {
+        return;
+    }
+    deepen(low, i / 32, t.c);
+    deepen(high, i / 1024, t.c);
+}
+
+// The first terms of a run: how many, and their deepest bracket.
+struct Part {
+    len: usize,
+    deep: usize,
+}
+
+// The term at p as a part.
+fn one_term(terms: &[u32], p: usize) -> Part
+    requires { ⌜ p * 4 + 4 ≤ length (now terms) ⌝ }
+    ensures { λ r. ⌜ (r .len ≡ 1) × (r .deep ≡ deepestOf (runOf (now (terms .entry)) p (r .len))) ⌝ }
+{
+    let t = words::get_term(terms, p);
+    Part {
+        len: 1,
+        deep: depth_of(t),
+    }
+}
+
+// What `deepest` takes at once of the n terms from p on: a whole block where one starts and ends within them, else one term.
+fn first_part(terms: &[u32], low: &[u8], high: &[u8], p: usize, n: usize) -> Part
+    requires { ⌜ (p + n) * 4 ≤ length (now terms) ⌝ }
+    requires { ⌜ Blocks (now terms) (p + n) (now low) (now high) ⌝ }
+    requires { ⌜ 0 < n ⌝ }
+    ensures { λ r. ⌜ (0 < r .len) × (r .len ≤ n) × (r .deep ≡ deepestOf (runOf (now (terms .entry)) p (r .len))) ⌝ }
+{
+    if n < 32 {
+        return one_term(terms, p);
+    }
+    if p % 32 != 0 {
+        return one_term(terms, p);
+    }
+    if 1024 <= n {
+        if p % 1024 == 0 {
+            return Part {
+                len: 1024,
+                deep: wide(high[p / 1024]),
+            };
+        }
+    }
+    Part {
+        len: 32,
+        deep: wide(low[p / 32]),
+    }
+}
+
 // The deepest bracket among the n terms from s on, 0 if there is none.
-fn deepest(terms: &[u32], s: usize, n: usize) -> usize
+fn deepest(terms: &[u32], low: &[u8], high: &[u8], s: usize, n: usize) -> usize
     requires { ⌜ (s + n) * 4 ≤ length (now terms) ⌝ }
+    requires { ⌜ Blocks (now terms) (s + n) (now low) (now high) ⌝ }
     ensures { λ r. ⌜ r ≡ deepestOf (runOf (now (terms .entry)) s n) ⌝ }
 {
     let mut deep: usize = 0;
     let mut i = 0;
     while i < n {
-        let t = words::get_term(terms, s + i);
-        deep = larger(deep, depth_of(t));
-        i += 1;
+        let part = first_part(terms, low, high, s + i, n - i);
+        deep = larger(deep, part.deep);
+        i += part.len;
     }
     deep
 }
 
 // The rule of a bracket with number i: contents below it, its exact depth.
-fn bracket_ok(terms: &[u32], i: usize, t: Term) -> bool
+fn bracket_ok(terms: &[u32], low: &[u8], high: &[u8], i: usize, t: Term) -> bool
     requires { ⌜ i * 4 ≤ length (now terms) ⌝ }
+    requires { ⌜ Blocks (now terms) i (now low) (now high) ⌝ }
     ensures { λ r. ⌜ r ≡ bracketRule (decode termLayout i (now (terms .entry))) (asTerm t) ⌝ }
 {
     if i < t.b {
@@ -95,23 +175,23 @@ fn bracket_ok(terms: &[u32], i: usize, t: Term) -> bool
     if t.c < 1 {
         return false;
     }
-    if t.c - 1 != deepest(terms, t.a, t.b) {
+    if t.c - 1 != deepest(terms, low, high, t.a, t.b) {
         return false;
     }
     t.c <= 255
 }
 
-// The rule of term i among those below it.
-fn term_ok(names: &[u8], terms: &[u32], i: usize) -> bool
-    requires { ⌜ i * 4 + 4 ≤ length (now terms) ⌝ }
-    ensures { λ r. ⌜ r ≡ termRule (now (names .entry)) (decode termLayout i (now (terms .entry))) (recordAt termLayout (now (terms .entry)) i) ⌝ }
+// The rule of a term with number i among those below it.
+fn term_ok(names: &[u8], terms: &[u32], low: &[u8], high: &[u8], i: usize, t: Term) -> bool
+    requires { ⌜ i * 4 ≤ length (now terms) ⌝ }
+    requires { ⌜ Blocks (now terms) i (now low) (now high) ⌝ }
+    ensures { λ r. ⌜ r ≡ termRule (now (names .entry)) (decode termLayout i (now (terms .entry))) (asTerm t) ⌝ }
 {
-    let t = words::get_term(terms, i);
     if t.kind < 3 {
         return symbol_ok(names, t);
     }
     if t.kind == 3 {
-        return bracket_ok(terms, i, t);
+        return bracket_ok(terms, low, high, i, t);
     }
     if t.kind == 4 {
         return t.a <= 2;
@@ -119,19 +199,39 @@ fn term_ok(names: &[u8], terms: &[u32], i: usize) -> bool
     false
 }
 
-// The rule of the used terms.
-pub fn terms_ok(names: &[u8], terms: &[u32], used: usize) -> bool
+// The rule of the used terms. The tables are lent with no terms in them; each term that keeps its rule goes into them, so that they
+// have all terms below the next.
+fn all_ok(names: &[u8], terms: &[u32], used: usize, low: &mut [u8], high: &mut [u8]) -> bool
     requires { ⌜ used * 4 ≤ length (now terms) ⌝ }
+    requires { ⌜ (used ≤ length (now low) * 32) × (used ≤ length (now high) * 1024) ⌝ }
+    requires { ⌜ Tables (now terms) 0 (now low) (now high) ⌝ }
     ensures { λ r. ⌜ r ≡ termsRule (now (names .entry)) [] (decode termLayout used (now (terms .entry))) ⌝ }
 {
     let mut i = 0;
     while i < used {
-        if !term_ok(names, terms, i) {
+        let t = words::get_term(terms, i);
+        if !term_ok(names, terms, low, high, i, t) {
             return false;
         }
+        enter(low, high, i, t);
         i += 1;
     }
     true
+}
+
+// The rule of the used terms. Setting the tables to 0 would cost a small store more than its terms do, so it gets small ones.
+pub fn terms_ok(names: &[u8], terms: &[u32], used: usize) -> bool
+    requires { ⌜ (used * 4 ≤ length (now terms)) × (used ≤ 65536) ⌝ }
+    ensures { λ r. ⌜ r ≡ termsRule (now (names .entry)) [] (decode termLayout used (now (terms .entry))) ⌝ }
+{
+    if used <= 1024 {
+        let mut low = [0u8; 32];
+        let mut high = [0u8; 1];
+        return all_ok(names, terms, used, &mut low, &mut high);
+    }
+    let mut low = [0u8; 2048];
+    let mut high = [0u8; 64];
+    all_ok(names, terms, used, &mut low, &mut high)
 }
 
 // 0, or the first of 1 and 2 that applies to the names and all used terms.
@@ -156,17 +256,10 @@ pub fn check_terms(names: &[u8], terms: &[u32], used: usize) -> usize
     0
 }
 
-// ---- equality ----
-
-// What comparing two runs answers.
-pub enum Compared {
-    Equal,
-    Different,
-    Refused(usize),
-}
+// ---- symbols ----
 
 // Whether two terms of one kind are equal, a bracket being no such term.
-fn equal_symbols(names: &[u8], t: Term, u: Term) -> bool
+pub fn equal_symbols(names: &[u8], t: Term, u: Term) -> bool
     requires { ⌜ Texts (now names) (asTerm t) (asTerm u) ⌝ }
     requires { ⌜ (t .kind ≡ u .kind) × (t .kind ≡ 3 → ⊥) ⌝ }
     ensures { λ r. ⌜ r ≡ equalSymbols (now (names .entry)) (asTerm t) (asTerm u) ⌝ }
@@ -188,89 +281,6 @@ fn equal_symbols(names: &[u8], t: Term, u: Term) -> bool
     }
     t.c == u.c
 }
-
-// Whether terms i and j are equal. Term and run equality call each other: bracket depth falls, so they are at most 510 calls deep.
-pub fn equal_terms(names: &[u8], terms: &[u32], used: usize, i: usize, j: usize) -> bool
-    requires { ⌜ Store (now names) (now terms) used ⌝ }
-    requires { ⌜ (i < used) × (j < used) ⌝ }
-    ensures { λ r. ⌜ r ≡ equalAt (now (names .entry)) (now (terms .entry)) used i j ⌝ }
-{
-    let t = words::get_term(terms, i);
-    let u = words::get_term(terms, j);
-    if t.kind != u.kind {
-        return false;
-    }
-    if t.kind == 3 {
-        return equal_runs(names, terms, used, t.a, t.b, u.a, u.b);
-    }
-    equal_symbols(names, t, u)
-}
-
-// Whether the n terms from s on and the m terms from p on are equal, term by term. The same run is equal without reading.
-pub fn equal_runs(
-    names: &[u8],
-    terms: &[u32],
-    used: usize,
-    s: usize,
-    n: usize,
-    p: usize,
-    m: usize,
-) -> bool
-    requires { ⌜ Store (now names) (now terms) used ⌝ }
-    requires { ⌜ (s + n ≤ used) × (p + m ≤ used) ⌝ }
-    ensures { λ r. ⌜ r ≡ equalRuns (now (names .entry)) (now (terms .entry)) used s n p m ⌝ }
-{
-    if n != m {
-        return false;
-    }
-    if s == p {
-        return true;
-    }
-    let mut k = 0;
-    while k < n {
-        if !equal_terms(names, terms, used, s + k, p + k) {
-            return false;
-        }
-        k += 1;
-    }
-    true
-}
-
-// Whether two runs of a store are equal, for any arguments: 1, 2, then 5 for a run that ends past the used terms.
-pub fn compare_runs(
-    names: &[u8],
-    terms: &[u32],
-    used: usize,
-    s: usize,
-    n: usize,
-    p: usize,
-    m: usize,
-) -> Compared
-    ensures { λ r. ⌜ answerOf r ≡ comparedRuns (now (names .entry)) (now (terms .entry)) used s n p m ⌝ }
-{
-    let number = check_terms(names, terms, used);
-    if number != 0 {
-        return Compared::Refused(number);
-    }
-    if used < n {
-        return Compared::Refused(5);
-    }
-    if used - n < s {
-        return Compared::Refused(5);
-    }
-    if used < m {
-        return Compared::Refused(5);
-    }
-    if used - m < p {
-        return Compared::Refused(5);
-    }
-    if equal_runs(names, terms, used, s, n, p, m) {
-        return Compared::Equal;
-    }
-    Compared::Different
-}
-
-// ---- literals ----
 
 // Whether a literal of a pattern (kinds 0 to 2) and a term are equal. An unknown or a bracket is none.
 pub fn symbol_matches(names: &[u8], literal: Term, t: Term) -> bool

@@ -54,15 +54,18 @@ enum-known-run c = search needs
 slots-in-requires : tie.Need-slots-in-requires
 slots-in-requires c κs = search needs
 
-slice-aggregate-walk : tie.Need-slice-aggregate-walk
-slice-aggregate-walk c = search needs
+slice-aggregate-walk-from : tie.Need-slice-aggregate-walk-from
+slice-aggregate-walk-from c = search needs
 
-start-requires : tie.Need-start-requires
-start-requires c κs = search needs
-
-walk-requires : tie.Need-walk-requires
+walk-from-requires : tie.Need-walk-from-requires
 unfolding settledOf
-walk-requires c κs = (rw (c .before .before .before .before .slots-in .ensures) (ready-start _ (requestOf (asField (c .before .before .before .before .before .before .before .before .before .before .before .before .before .before .before .before .before .before .before .before .before .before .before .before .before .before .before .before .args .f)) (c .before .before .before .before .before .before .before .before .before .before .before .before .before .before .before .before .before .before .before .before .before .before .before .before .before .before .before .before .args .pattern .now) (c .before .before .before .before .before .before .before .before .before .before .before .before .before .before .before .before .before .before .before .before .before .before .before .before .before .before .before .before .args .bindings .now) (c .before .before .before .before .before .before .before .before .before .before .before .before .before .before .before .before .before .before .before .before .before .before .before .before .before .before .before .before .args .slots .now)) _ _ _ _ _ (settled-from _ (requestOf (asField (c .before .before .before .before .before .before .before .before .before .before .before .before .before .before .before .before .before .before .before .before .before .before .before .before .before .before .before .before .args .f)) (c .before .before .before .before .before .before .before .before .before .before .before .before .before .before .before .before .before .before .before .before .before .before .before .before .before .before .before .before .args .pattern .now) (c .before .before .before .before .before .before .before .before .before .before .before .before .before .before .before .before .before .before .before .before .before .before .before .before .before .before .before .before .args .bindings .now) (c .before .before .before .before .before .before .before .before .before .before .before .before .before .before .before .before .before .before .before .before .before .before .before .before .before .before .before .before .args .slots .now)) _ _ _ _ _ _ (within-8 _ _ _ _ (c .before .before .before .before .before .before .before .before .before .before .before .before .before .before .before .before .before .before .before .refusal .ensures) (c .before .before .before .before .before .before .before .before .before .before .before .before .before .before .before .before .before .before .if1 .left)) (c .before .before .before .before .before .before .before .before .before .before .before .before .before .before .before .number-names .ensures .0) (c .before .before .before .before .before .before .before .before .before .before .before .before .before .before .before .number-names .ensures .1) (c .before .before .before .before .before .before .before .before .before .before .before .before .before .if3 .left) (omega (arith, c .before .before .before .before .before .before .before .before .before .before .before .before .before .before .before .number-names .kept .1 .1 .1 .0, length-replicate {A = ℕ} 256 0)) (c .before .before .before .before .before .before .before .before .before .before .settle .ensures) (ap settledOf (c .before .before .before .before .before .before .run .given .1))) _ _ (c .before .start .ensures .0) (c .before .start .ensures .1)), search needs)
+walk-from-requires c κs = (
+  search needs,
+  λ st el ee rl rb. rw (c .before .before .before .slots-in .ensures) (ready-start _ (requestOf (asField (c .before .before .before .before .before .before .before .before .before .before .before .before .before .before .before .before .before .before .before .before .before .before .before .before .before .before .before .args .f)) (c .before .before .before .before .before .before .before .before .before .before .before .before .before .before .before .before .before .before .before .before .before .before .before .before .before .before .before .args .pattern .now) (c .before .before .before .before .before .before .before .before .before .before .before .before .before .before .before .before .before .before .before .before .before .before .before .before .before .before .before .args .bindings .now) (c .before .before .before .before .before .before .before .before .before .before .before .before .before .before .before .before .before .before .before .before .before .before .before .before .before .before .before .args .slots .now)) _ _ _ _ _
+      (settled-from _ (requestOf (asField (c .before .before .before .before .before .before .before .before .before .before .before .before .before .before .before .before .before .before .before .before .before .before .before .before .before .before .before .args .f)) (c .before .before .before .before .before .before .before .before .before .before .before .before .before .before .before .before .before .before .before .before .before .before .before .before .before .before .before .args .pattern .now) (c .before .before .before .before .before .before .before .before .before .before .before .before .before .before .before .before .before .before .before .before .before .before .before .before .before .before .before .args .bindings .now) (c .before .before .before .before .before .before .before .before .before .before .before .before .before .before .before .before .before .before .before .before .before .before .before .before .before .before .before .args .slots .now)) _ _ _ _ _ _
+      (within-8 _ _ _ _ (c .before .before .before .before .before .before .before .before .before .before .before .before .before .before .before .before .before .before .refusal .ensures) (c .before .before .before .before .before .before .before .before .before .before .before .before .before .before .before .before .before .if1 .left)) (c .before .before .before .before .before .before .before .before .before .before .before .before .before .before .number-names .ensures .0) (c .before .before .before .before .before .before .before .before .before .before .before .before .before .before .number-names .ensures .1) (c .before .before .before .before .before .before .before .before .before .before .before .before .if3 .left)
+      (omega (arith, c .before .before .before .before .before .before .before .before .before .before .before .before .before .before .number-names .kept .1 .1 .1 .0, length-replicate {A = ℕ} 256 0)) (c .before .before .before .before .before .before .before .before .before .settle .ensures) (ap settledOf (c .before .before .before .before .before .run .given .1))) _ st el ee rl rb),
+)
 
 answer-requires : tie.Need-answer-requires
 answer-requires c κs = search needs
@@ -82,7 +85,11 @@ same-length-6 c = search needs
 
 returns-5 : tie.Need-returns-5
 unfolding settledOf
-returns-5 c = exit-done _ _ _ (c .before .before .before .before .before .before .before .before .before .before .before .before .before .before .before .before .before .before .before .before .before .before .before .refusal .ensures) (c .before .before .before .before .before .before .before .before .before .before .before .before .before .before .before .before .before .before .before .before .before .before .if1 .left) _ _ _ _ _ (settled-from _ (requestOf (asField (c .before .before .before .before .before .before .before .before .before .before .before .before .before .before .before .before .before .before .before .before .before .before .before .before .before .before .before .before .before .before .before .before .args .f)) (c .before .before .before .before .before .before .before .before .before .before .before .before .before .before .before .before .before .before .before .before .before .before .before .before .before .before .before .before .before .before .before .before .args .pattern .now) (c .before .before .before .before .before .before .before .before .before .before .before .before .before .before .before .before .before .before .before .before .before .before .before .before .before .before .before .before .before .before .before .before .args .bindings .now) (c .before .before .before .before .before .before .before .before .before .before .before .before .before .before .before .before .before .before .before .before .before .before .before .before .before .before .before .before .before .before .before .before .args .slots .now)) _ _ _ _ _ _ (within-8 _ _ _ _ (c .before .before .before .before .before .before .before .before .before .before .before .before .before .before .before .before .before .before .before .before .before .before .before .refusal .ensures) (c .before .before .before .before .before .before .before .before .before .before .before .before .before .before .before .before .before .before .before .before .before .before .if1 .left)) (c .before .before .before .before .before .before .before .before .before .before .before .before .before .before .before .before .before .before .before .number-names .ensures .0) (c .before .before .before .before .before .before .before .before .before .before .before .before .before .before .before .before .before .before .before .number-names .ensures .1) (c .before .before .before .before .before .before .before .before .before .before .before .before .before .before .before .before .before .if3 .left) (omega (arith, c .before .before .before .before .before .before .before .before .before .before .before .before .before .before .before .before .before .before .before .number-names .kept .1 .1 .1 .0, length-replicate {A = ℕ} 256 0)) (c .before .before .before .before .before .before .before .before .before .before .before .before .before .before .settle .ensures) (ap settledOf (c .before .before .before .before .before .before .before .before .before .before .run .given .1))) _ _ (c .before .before .before .before .before .start .ensures .0) (c .before .before .before .before .before .start .ensures .1) refl _ _ (c .before .before .before .before .before .before .before .before .slots-in .ensures) (c .before .before .before .walk .ensures) (search needs) (c .answer .ensures)
+returns-5 c =
+    exit-done _ _ _ (c .before .before .before .before .before .before .before .before .before .before .before .before .before .before .before .before .before .before .before .before .before .before .refusal .ensures) (c .before .before .before .before .before .before .before .before .before .before .before .before .before .before .before .before .before .before .before .before .before .if1 .left) _ _ _ _ _
+    (settled-from _ (requestOf (asField (c .before .before .before .before .before .before .before .before .before .before .before .before .before .before .before .before .before .before .before .before .before .before .before .before .before .before .before .before .before .before .before .args .f)) (c .before .before .before .before .before .before .before .before .before .before .before .before .before .before .before .before .before .before .before .before .before .before .before .before .before .before .before .before .before .before .before .args .pattern .now) (c .before .before .before .before .before .before .before .before .before .before .before .before .before .before .before .before .before .before .before .before .before .before .before .before .before .before .before .before .before .before .before .args .bindings .now) (c .before .before .before .before .before .before .before .before .before .before .before .before .before .before .before .before .before .before .before .before .before .before .before .before .before .before .before .before .before .before .before .args .slots .now)) _ _ _ _ _ _
+    (within-8 _ _ _ _ (c .before .before .before .before .before .before .before .before .before .before .before .before .before .before .before .before .before .before .before .before .before .before .refusal .ensures) (c .before .before .before .before .before .before .before .before .before .before .before .before .before .before .before .before .before .before .before .before .before .if1 .left)) (c .before .before .before .before .before .before .before .before .before .before .before .before .before .before .before .before .before .before .number-names .ensures .0) (c .before .before .before .before .before .before .before .before .before .before .before .before .before .before .before .before .before .before .number-names .ensures .1) (c .before .before .before .before .before .before .before .before .before .before .before .before .before .before .before .before .if3 .left)
+    (omega (arith, c .before .before .before .before .before .before .before .before .before .before .before .before .before .before .before .before .before .before .number-names .kept .1 .1 .1 .0, length-replicate {A = ℕ} 256 0)) (c .before .before .before .before .before .before .before .before .before .before .before .before .before .settle .ensures) (ap settledOf (c .before .before .before .before .before .before .before .before .before .run .given .1))) _ refl _ _ (c .before .before .before .before .before .before .before .slots-in .ensures) (c .before .before .before .walk-from .ensures) (search needs) (c .answer .ensures)
 
 pub list-spec : {M : Type 1} → statement M
 list-spec =
@@ -101,9 +108,8 @@ list-spec =
     enum-known-n
     enum-known-run
     slots-in-requires
-    slice-aggregate-walk
-    start-requires
-    walk-requires
+    slice-aggregate-walk-from
+    walk-from-requires
     answer-requires
     same-length-4
     returns-4

@@ -1,20 +1,20 @@
 -- `start`: the loop copies the run of each binding; its invariant is that the first i are copied.
-use mathlib.Core.Path.{refl}
+use mathlib.Core.Path.{_≡_, refl}
 use native.Mathlib.Omega.{arith}
 use Prim.Native.Nat.{_-_}
-use Rattle.steps.specs.State.{stackOf}
+use lib.ListN.{length, length-set}
 use Rattle.listing.specs.StartLaws.{Copied, copied-none, copied-more, copied-all}
 use Rattle.listing.proofs.start.Statement.{statement}
 use Rattle.listing.proofs.start.Tie as tie
 
 abbrev Inv-loop : tie.InvT-loop
-Inv-loop bindings run n binds₀ i₀ binds i = Copied bindings binds i
+Inv-loop bindings binds₀ n i₀ binds i = Copied bindings binds i × (length binds ≡ length binds₀)
 
 abbrev μ-loop : tie.MeasureT-loop
-μ-loop bindings run n binds₀ i₀ binds i = n - i
+μ-loop bindings binds₀ n i₀ binds i = n - i
 
 loop-holds : tie.Need-loop-holds Inv-loop μ-loop
-loop-holds c = copied-none _ _ refl
+loop-holds c = (copied-none _ _ (c .pre .1), refl)
 
 mul-binds : tie.Need-mul-binds Inv-loop μ-loop
 mul-binds c = omega arith
@@ -34,8 +34,8 @@ mul-binds-3 c = omega arith
 mul-binds-4 : tie.Need-mul-binds-4 Inv-loop μ-loop
 mul-binds-4 c = omega arith
 
-array-write-binds : tie.Need-array-write-binds Inv-loop μ-loop
-array-write-binds c = omega arith
+slice-write-binds : tie.Need-slice-write-binds Inv-loop μ-loop
+slice-write-binds c = omega (arith, c .before .before .loop .inv .0 .room)
 
 mul-binds-5 : tie.Need-mul-binds-5 Inv-loop μ-loop
 mul-binds-5 c = omega arith
@@ -58,8 +58,8 @@ add-binds-3 c = omega arith
 mul-binds-8 : tie.Need-mul-binds-8 Inv-loop μ-loop
 mul-binds-8 c = omega arith
 
-array-write-binds-2 : tie.Need-array-write-binds-2 Inv-loop μ-loop
-array-write-binds-2 c = omega arith
+slice-write-binds-2 : tie.Need-slice-write-binds-2 Inv-loop μ-loop
+slice-write-binds-2 c = rw length-set (omega (arith, c .before .before .before .loop .inv .0 .room))
 
 add-i : tie.Need-add-i Inv-loop μ-loop
 add-i c = omega arith
@@ -68,11 +68,13 @@ loop-less : tie.Need-loop-less Inv-loop μ-loop
 loop-less c = omega arith
 
 loop-again : tie.Need-loop-again Inv-loop μ-loop
-loop-again c = copied-more _ _ _ (c .before .before .before .loop .inv) (c .before .before .loop-test .taken) (c .before .before .before .before .pre)
+loop-again c = let o = c .before .before .before .loop .inv in (copied-more _ _ _ (o .0) (c .before .before .loop-test .taken) (c .before .before .before .before .pre .0), simp length-set (o .1))
+
+same-length : tie.Need-same-length Inv-loop μ-loop
+same-length c = c .before .loop .inv .1
 
 returns : tie.Need-returns Inv-loop μ-loop
-unfolding stackOf
-returns c = (refl, copied-all _ _ _ (c .before .loop .inv) (c .loop-test .left), refl)
+returns c = copied-all _ _ _ (c .before .loop .inv .0) (c .loop-test .left)
 
 pub start-spec : {M : Type 1} → statement M
 start-spec =
@@ -87,7 +89,7 @@ start-spec =
     shared-slice-read-binds
     mul-binds-3
     mul-binds-4
-    array-write-binds
+    slice-write-binds
     mul-binds-5
     add-binds-2
     mul-binds-6
@@ -95,8 +97,9 @@ start-spec =
     mul-binds-7
     add-binds-3
     mul-binds-8
-    array-write-binds-2
+    slice-write-binds-2
     add-i
     loop-less
     loop-again
+    same-length
     returns)

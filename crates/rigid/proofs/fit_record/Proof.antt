@@ -8,32 +8,34 @@ use Rattle.rigid.proofs.fit_record.Statement.{statement}
 use Rattle.rigid.proofs.fit_record.Tie as tie
 
 returns : tie.Need-returns
-returns c = (tt, λ p. fit-close _ _ _ _ _ (c .before .before .before .before .args .s) _ p (c .if1 .taken))
+returns c = let a = c .before .before .before .before .before .args in (tt, λ p. fit-close _ _ _ _ _ (a .bound) (a .binds .now) _ p (c .if1 .taken))
 
 returns-2 : tie.Need-returns-2
-returns-2 c = (tt, λ p. fit-call _ _ _ _ _ (c .before .before .before .before .before .before .args .s) _ p (c .if2 .taken))
+returns-2 c = let a = c .before .before .before .before .before .before .before .args in (tt, λ p. fit-call _ _ _ _ _ (a .bound) (a .binds .now) _ p (c .if2 .taken))
 
 returns-3 : tie.Need-returns-3
-returns-3 c = (tt, λ p. fit-open _ _ _ _ _ (c .before .before .before .before .before .before .before .before .before .before .args .s) _ p (c .before .before .if3 .taken) (omega arith))
+returns-3 c = let a = c .before .before .before .before .before .before .before .before .before .before .args in (tt, λ p. fit-open _ _ _ _ _ (a .bound) (a .binds .now) _ p (c .before .if3 .taken) (omega arith))
 
 entry-requires : tie.Need-entry-requires
-entry-requires c κs = search needs
+entry-requires c κs = let a = c .before .before .before .before .before .before .before .before .before .before .pre .0 .1 in omega (arith, a .bound, a .room)
 
 returns-4 : tie.Need-returns-4
 returns-4 c =
-    let a = c .before .before .before .before .before .before .before .before .before .before .before .before .before in
-    (tt, λ p. fit-long _ _ _ _ _ (a .args .s) _ p (c .before .before .before .before .before .if3 .taken) _ (c .before .before .before .if4 .left) (c .before .before .entry .ensures) (a .pre .0 .1) (a .pre .0 .2) (c .if5 .taken))
+    let a = c .before .before .before .before .before .before .before .before .before .before .before .before .before in (
+      tt,
+      λ p. fit-long _ _ _ _ _ (a .args .bound) (a .args .binds .now) _ p (c .before .before .before .before .if3 .taken) _ (c .before .before .before .if4 .left) (c .before .before .entry .ensures _ (c .before .before .before .if4 .left)) (a .pre .0 .1) (a .pre .0 .2) (c .if5 .taken),
+    )
 
 equal-runs-requires : tie.Need-equal-runs-requires
 equal-runs-requires c κs =
     let a = c .before .before .before .before .before .before .before .before .before .before .before .before .before in
-    (a .pre .0 .0, (entry-in _ _ _ (a .pre .0 .1) (c .before .before .before .if4 .left) (c .before .before .entry .ensures), omega (arith, a .pre .0 .2)))
+    ((a .pre .0 .0, a .pre .0 .3), (entry-in _ _ _ _ (a .pre .0 .1) (c .before .before .before .if4 .left) (c .before .before .entry .ensures _ (c .before .before .before .if4 .left)), omega (arith, a .pre .0 .2)))
 
 returns-5 : tie.Need-returns-5
 returns-5 c =
     let a = c .before .before .before .before .before .before .before .before .before .before .before .before .before .before .before in (
       tt,
-      λ p. fit-differs _ _ _ _ _ (a .args .s) _ p (c .before .before .before .before .before .before .before .if3 .taken) _ (c .before .before .before .before .before .if4 .left) (c .before .before .before .before .entry .ensures) (a .pre .0 .1) (a .pre .0 .2) (c .before .before .if5 .left)
+      λ p. fit-differs _ _ _ _ _ (a .args .bound) (a .args .binds .now) _ p (c .before .before .before .before .before .before .if3 .taken) _ (c .before .before .before .before .before .if4 .left) (c .before .before .before .before .entry .ensures _ (c .before .before .before .before .before .if4 .left)) (a .pre .0 .1) (a .pre .0 .2) (c .before .before .if5 .left)
           (c .before .equal-runs .ensures) (not-true _ (c .if6 .taken)),
     )
 
@@ -41,27 +43,27 @@ returns-6 : tie.Need-returns-6
 returns-6 c =
     let a = c .before .before .before .before .before .before .before .before .before .before .before .before .before .before .before in (
       omega arith,
-      λ p. fit-equals _ _ _ _ _ (a .args .s) _ p (c .before .before .before .before .before .before .before .if3 .taken) _ (c .before .before .before .before .before .if4 .left) (c .before .before .before .before .entry .ensures) (a .pre .0 .1) (a .pre .0 .2) (c .before .before .if5 .left)
+      λ p. fit-equals _ _ _ _ _ (a .args .bound) (a .args .binds .now) _ p (c .before .before .before .before .before .before .if3 .taken) _ (c .before .before .before .before .before .if4 .left) (c .before .before .before .before .entry .ensures _ (c .before .before .before .before .before .if4 .left)) (a .pre .0 .1) (a .pre .0 .2) (c .before .before .if5 .left)
           (c .before .equal-runs .ensures) (not-false _ (c .if6 .left)),
     )
 
 returns-7 : tie.Need-returns-7
-returns-7 c = (tt, λ p. fit-none _ _ _ _ _ (c .before .before .before .before .before .before .before .before .before .args .s) _ p (omega arith) (c .before .before .before .before .before .if1 .left) (c .if7 .taken))
+returns-7 c = let a = c .before .before .before .before .before .before .before .before .before .before .args in (tt, λ p. fit-none _ _ _ _ _ (a .bound) (a .binds .now) _ p (omega arith) (c .before .before .before .before .before .if1 .left) (c .if7 .taken))
 
 fit-term-requires : tie.Need-fit-term-requires
 fit-term-requires c κs =
-    let a = c .before .before .before .before .before .before .before .before .before in
+    let a = c .before .before .before .before .before .before .before .before .before .before in
     ((a .pre .0 .0, omega (arith, a .pre .0 .2)), (a .pre .1, omega arith, c .before .before .before .before .before .if1 .left))
 
 returns-8 : tie.Need-returns-8
 returns-8 c =
-    let a = c .before .before .before .before .before .before .before .before .before .before .before in
-    (tt, λ p. fit-not _ _ _ _ _ (a .args .s) _ p (omega arith) (c .before .before .before .before .before .before .before .if1 .left) (a .pre .0 .2) (c .before .before .if7 .left) (c .before .fit-term .ensures) (not-true _ (c .if8 .taken)))
+    let a = c .before .before .before .before .before .before .before .before .before .before .before .before in
+    (tt, λ p. fit-not _ _ _ _ _ (a .args .bound) (a .args .binds .now) _ p (omega arith) (c .before .before .before .before .before .before .before .if1 .left) (a .pre .0 .2) (c .before .before .if7 .left) (c .before .fit-term .ensures) (not-true _ (c .if8 .taken)))
 
 returns-9 : tie.Need-returns-9
 returns-9 c =
-    let a = c .before .before .before .before .before .before .before .before .before .before .before in
-    (omega arith, λ p. fit-one _ _ _ _ _ (a .args .s) _ p (omega arith) (c .before .before .before .before .before .before .before .if1 .left) (a .pre .0 .2) (c .before .before .if7 .left) (c .before .fit-term .ensures) (not-false _ (c .if8 .left)))
+    let a = c .before .before .before .before .before .before .before .before .before .before .before .before in
+    (omega arith, λ p. fit-one _ _ _ _ _ (a .args .bound) (a .args .binds .now) _ p (omega arith) (c .before .before .before .before .before .before .before .if1 .left) (a .pre .0 .2) (c .before .before .if7 .left) (c .before .fit-term .ensures) (not-false _ (c .if8 .left)))
 
 pub fit-record-spec : {M : Type 1} → statement M
 fit-record-spec =

@@ -1,67 +1,75 @@
--- `copy_out`: after each turn the first `done` terms are in the buffer, and the others lie ahead of the place.
+-- `copy_out`: after each turn the first `done` terms are in the buffer, and those that are to be read next come after them.
 use native.Mathlib.Omega.{arith}
 use mathlib.Core.Path.{refl}
-use Prim.Native.Nat.{_-_}
-use Rattle.rope.specs.Spot.{asSpot}
-use Rattle.rope.specs.CopiedLaws.{Done, done-none, done-length, done-found, done-next, done-all}
+use Prim.Native.Nat.{_-_, _≤_}
+use Rattle.term_spec.specs.WordsLaws.{decode-length}
+use Rattle.words.specs.Records.{asRun}
+use Rattle.rope.specs.Pieces.{restOf}
+use Rattle.rope.specs.CopiedLaws.{Found, Done, done-none, done-length, done-settled, done-found, done-within, done-next, done-all}
 use Rattle.rope.proofs.copy_out.Statement.{statement}
 use Rattle.rope.proofs.copy_out.Tie as tie
 
 abbrev Inv-loop : tie.InvT-loop
-Inv-loop terms terms-used nodes nodes-used node len work₀ at₀ done₀ work at done = Done terms terms-used nodes nodes-used node len 0 work₀ (asSpot at) work done
+Inv-loop terms terms-used nodes nodes-used node len work₀ stack₀ at₀ done₀ work stack at done = (at .depth ≤ 32) × Done terms terms-used nodes nodes-used node len 0 work₀ (restOf at stack) work done
 
 abbrev μ-loop : tie.MeasureT-loop
-μ-loop terms terms-used nodes nodes-used node len work₀ at₀ done₀ work at done = len - done
+μ-loop terms terms-used nodes nodes-used node len work₀ stack₀ at₀ done₀ work stack at done = len - done
+
+-- the run of a turn
+found : (c : tie.After-front Inv-loop μ-loop) → let x = c .before .before .before .before .before .before .before .before .args in Found (x .terms-used) (x .len) (c .before .before .before .before .loop .done) (asRun (c .front .result))
+found c = done-found (done-settled (c .before .before .before .before .loop .inv .1) (c .before .settle .ensures .1)) (c .before .before .before .loop-test .taken) (c .before .settle .ensures .2) (c .front .ensures)
 
 loop-holds : tie.Need-loop-holds Inv-loop μ-loop
 loop-holds c =
     let p = c .before .before .before .pre in
-    done-none (record { there = p .0 .0; few = p .0 .1; store = p .0 .2; low = p .1 .0 .0; reached = p .1 .0 .1; room = omega arith })
+    (omega arith, done-none (record { there = p .0 .0; few = p .0 .1; store = p .0 .2; low = p .1 .0 .0; reached = p .1 .0 .1; room = omega arith }) _)
 
-sub-run-at : tie.Need-sub-run-at Inv-loop μ-loop
-sub-run-at c = omega arith
+settle-requires : tie.Need-settle-requires Inv-loop μ-loop
+settle-requires c κs = let i = c .before .before .loop .inv in (i .1 .task .store, i .1 .along .ready (c .before .loop-test .taken), i .0)
 
-run-at-requires : tie.Need-run-at-requires Inv-loop μ-loop
-run-at-requires c κs = let i = c .before .loop .inv in (i .task .store, i .task .few, i .spot-low)
+front-requires : tie.Need-front-requires Inv-loop μ-loop
+front-requires c κs =
+    let t = c .before .before .before .loop .inv .1 .task in
+    (t .store, t .few, rw decode-length at (c .settle .ensures .1 .ready .low), c .settle .ensures .2)
 
 mul-copy-words : tie.Need-mul-copy-words Inv-loop μ-loop
-mul-copy-words c = let g = c .before .before in omega (arith, done-found (g .before .before .loop .inv) (g .before .loop-test .taken) (g .run-at .ensures))
+mul-copy-words c = omega (arith, found (c .before .before))
 
 mul-copy-words-2 : tie.Need-mul-copy-words-2 Inv-loop μ-loop
-mul-copy-words-2 c = let g = c .before .before in omega (arith, done-found (g .before .before .loop .inv) (g .before .loop-test .taken) (g .run-at .ensures))
+mul-copy-words-2 c = omega (arith, found (c .before .before))
 
 mul-copy-words-3 : tie.Need-mul-copy-words-3 Inv-loop μ-loop
-mul-copy-words-3 c = let g = c .before .before .before in omega (arith, done-found (g .before .before .loop .inv) (g .before .loop-test .taken) (g .run-at .ensures))
+mul-copy-words-3 c = omega (arith, found (c .before .before .before))
 
 copy-words-requires : tie.Need-copy-words-requires Inv-loop μ-loop
 copy-words-requires c κs =
-    let g = c .before .before .before in
-    let f = done-found (g .before .before .loop .inv) (g .before .loop-test .taken) (g .run-at .ensures) in
-    let l = done-length (g .before .before .loop .inv) in
-    (omega (arith, g .before .before .loop .inv .task .there), omega (arith, g .before .before .loop .inv .task .room))
-
-add-t12 : tie.Need-add-t12 Inv-loop μ-loop
-add-t12 c = let g = c .before .before .before .before .before .before .before .before in omega (arith, done-found (g .before .before .loop .inv) (g .before .loop-test .taken) (g .run-at .ensures))
-
-ahead-requires : tie.Need-ahead-requires Inv-loop μ-loop
-ahead-requires c κs = let i = c .before .before .before .before .before .before .before .before .before .before .loop .inv in (i .task .store, i .spot-low)
+    let f = found (c .before .before .before) in
+    let l = done-length (c .before .before .before .before .before .before .before .loop .inv .1) in
+    (omega (arith, c .before .before .before .before .before .before .before .loop .inv .1 .task .there), omega (arith, c .before .before .before .before .before .before .before .loop .inv .1 .task .room))
 
 add-done : tie.Need-add-done Inv-loop μ-loop
-add-done c = let g = c .before .before .before .before .before .before .before .before .before .before in omega (arith, done-found (g .before .before .loop .inv) (g .before .loop-test .taken) (g .run-at .ensures))
+add-done c = omega (arith, found (c .before .before .before .before .before .before .before))
+
+past-requires : tie.Need-past-requires Inv-loop μ-loop
+past-requires c κs =
+    let g = c .before .before .before .before .before .before .before .before in
+    let (h, k) = done-within (done-settled (g .before .before .before .before .loop .inv .1) (g .before .settle .ensures .1)) (g .before .before .before .loop-test .taken) (g .before .settle .ensures .2) (g .front .ensures) in
+    (h, k, g .before .settle .ensures .0, omega (arith, found g))
 
 loop-less : tie.Need-loop-less Inv-loop μ-loop
-loop-less c = let g = c .before .before .before .before .before .before .before .before .before .before in omega (arith, done-found (g .before .before .loop .inv) (g .before .loop-test .taken) (g .run-at .ensures))
+loop-less c = omega (arith, found (c .before .before .before .before .before .before .before .before .before))
 
 loop-again : tie.Need-loop-again Inv-loop μ-loop
 loop-again c =
-    let g = c .before .before .before .before .before .before .before .before .before .before in
-    done-next (g .before .before .loop .inv) (g .before .loop-test .taken) (g .run-at .ensures) _ refl _ (omega arith) (c .before .ahead .ensures) (c .before .before .before .before .before .before .copy-words .ensures)
+    let g = c .before .before .before .before .before .before .before .before .before in
+    let i = done-settled (g .before .before .before .before .loop .inv .1) (g .before .settle .ensures .1) in
+    (c .past .ensures .0, done-next i (g .before .before .before .loop-test .taken) (g .before .settle .ensures .2) (g .front .ensures) _ refl _ (omega arith) (c .past .ensures .1) (c .before .before .before .before .before .copy-words .ensures))
 
 same-length : tie.Need-same-length Inv-loop μ-loop
-same-length c = done-length (c .before .loop .inv)
+same-length c = done-length (c .before .loop .inv .1)
 
 returns : tie.Need-returns Inv-loop μ-loop
-returns c = done-all (c .before .loop .inv) (omega arith)
+returns c = done-all (c .before .loop .inv .1) (omega arith)
 
 pub copy-out-spec : {M : Type 1} → statement M
 copy-out-spec =
@@ -70,15 +78,14 @@ copy-out-spec =
     Inv-loop
     μ-loop
     loop-holds
-    sub-run-at
-    run-at-requires
+    settle-requires
+    front-requires
     mul-copy-words
     mul-copy-words-2
     mul-copy-words-3
     copy-words-requires
-    add-t12
-    ahead-requires
     add-done
+    past-requires
     loop-less
     loop-again
     same-length

@@ -1,6 +1,6 @@
 -- `compared_number`: each case of the enum is one clause of its definition.
 use borrow.Author.Needs.{needs}
-use Rattle.value.specs.Equal.{answerOf}
+use Rattle.equality.specs.Compare.{answerOf}
 use Rattle.told.proofs.compared_number.Statement.{statement}
 use Rattle.told.proofs.compared_number.Tie as tie
 

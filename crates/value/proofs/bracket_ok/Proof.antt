@@ -3,6 +3,7 @@ use borrow.Author.Needs.{needs}
 use mathlib.Core.Path.{refl}
 use native.Mathlib.Omega.{arith}
 use Rattle.value.specs.CheckLaws.{bracket-out, bracket-wrong, bracket-exact}
+use Rattle.value.specs.BlockLaws.{blocks-below}
 use Rattle.value.proofs.bracket_ok.Statement.{statement}
 use Rattle.value.proofs.bracket_ok.Tie as tie
 
@@ -16,7 +17,7 @@ returns-3 : tie.Need-returns-3
 returns-3 c = bracket-wrong _ _ _ (search needs) refl (λ e. omega arith)
 
 deepest-requires : tie.Need-deepest-requires
-deepest-requires c κs = search needs
+deepest-requires c κs = (search needs, blocks-below (c .before .before .before .before .before .before .before .before .before .before .before .pre .1) (search needs))
 
 returns-4 : tie.Need-returns-4
 returns-4 c = bracket-wrong _ _ _ (search needs) (c .before .deepest .ensures) (λ e. c .if4 .taken (omega arith))

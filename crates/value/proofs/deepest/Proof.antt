@@ -1,30 +1,31 @@
--- `deepest`: after i terms `deep` is the deepest of the i terms from s on, and one term more is one law.
+-- `deepest`: after i terms `deep` is the deepest of the i terms from s on, and a part more is one law.
 use borrow.Author.Needs.{needs}
 use mathlib.Core.Path.{_≡_}
+use native.Mathlib.Omega.{arith}
 use Prim.Native.Nat.{_≤_, _-_}
 use Rattle.term_spec.specs.Term.{deepest}
 use Rattle.value.specs.Check.{runOf}
-use Rattle.value.specs.CheckLaws.{deepest-none, deepest-more}
+use Rattle.value.specs.BlockLaws.{deepest-none, deepest-parts, blocks-below}
 use Rattle.value.proofs.deepest.Statement.{statement}
 use Rattle.value.proofs.deepest.Tie as tie
 
 abbrev Inv-loop : tie.InvT-loop
-Inv-loop terms s n deep₀ i₀ deep i = (i ≤ n) × (deep ≡ deepest (runOf terms s i))
+Inv-loop terms low high s n deep₀ i₀ deep i = (i ≤ n) × (deep ≡ deepest (runOf terms s i))
 
 abbrev μ-loop : tie.MeasureT-loop
-μ-loop terms s n deep₀ i₀ deep i = n - i
+μ-loop terms low high s n deep₀ i₀ deep i = n - i
 
 loop-holds : tie.Need-loop-holds Inv-loop μ-loop
 loop-holds c = (search needs, deepest-none _ _)
 
-add-get-term : tie.Need-add-get-term Inv-loop μ-loop
-add-get-term c = search needs
+add-first-part : tie.Need-add-first-part Inv-loop μ-loop
+add-first-part c = search needs
 
-get-term-requires : tie.Need-get-term-requires Inv-loop μ-loop
-get-term-requires c κs = search needs
+sub-first-part : tie.Need-sub-first-part Inv-loop μ-loop
+sub-first-part c = search needs
 
-depth-of-requires : tie.Need-depth-of-requires Inv-loop μ-loop
-depth-of-requires c κs = search needs
+first-part-requires : tie.Need-first-part-requires Inv-loop μ-loop
+first-part-requires c κs = (search needs, (blocks-below (c .before .before .before .before .before .pre .1) (omega arith), search needs))
 
 larger-requires : tie.Need-larger-requires Inv-loop μ-loop
 larger-requires c κs = search needs
@@ -37,11 +38,11 @@ loop-less c = search needs
 
 loop-again : tie.Need-loop-again Inv-loop μ-loop
 loop-again c =
-    let g = c .before .before in
-    (search needs, deepest-more _ _ _ _ (g .before .before .loop .inv .1) (g .get-term .ensures) (c .before .depth-of .ensures) (c .larger .ensures))
+    let p = c .before .before in
+    (search needs, deepest-parts _ _ _ _ (p .before .before .loop .inv .1) (p .first-part .ensures .2) (c .before .larger .ensures))
 
 returns : tie.Need-returns Inv-loop μ-loop
-returns c = let e : c .before .loop .i ≡ c .before .before .before .args .n = search needs in rw (← e) (c .before .loop .inv .1)
+returns c = let e : c .before .loop .i ≡ c .before .before .before .before .before .args .n = search needs in rw (← e) (c .before .loop .inv .1)
 
 pub deepest-spec : {M : Type 1} → statement M
 deepest-spec =
@@ -50,9 +51,9 @@ deepest-spec =
     Inv-loop
     μ-loop
     loop-holds
-    add-get-term
-    get-term-requires
-    depth-of-requires
+    add-first-part
+    sub-first-part
+    first-part-requires
     larger-requires
     add-i
     loop-less

@@ -1,40 +1,29 @@
--- `term_ok` is the rule of the term read: each kind's exit is one law of the rule.
+-- `term_ok` is the rule of a term: each kind's exit is one law of the rule.
 use borrow.Author.Needs.{needs}
-use mathlib.Core.Path.{ap, _∙_}
-use Rattle.term_spec.specs.Term.{termRule}
+use mathlib.Core.Path.{_∙_}
 use Rattle.value.specs.CheckLaws.{term-symbol, term-bracket, term-unknown, term-none}
 use Rattle.value.proofs.term_ok.Statement.{statement}
 use Rattle.value.proofs.term_ok.Tie as tie
-
-get-term-requires : tie.Need-get-term-requires
-get-term-requires c κs = search needs
 
 symbol-ok-requires : tie.Need-symbol-ok-requires
 symbol-ok-requires c κs = search needs
 
 returns : tie.Need-returns
-returns c = c .symbol-ok .ensures ∙ term-symbol _ _ _ (c .before .if1 .taken) ∙ ap (termRule _ _) (c .before .before .before .get-term .ensures)
+returns c = c .symbol-ok .ensures ∙ term-symbol _ _ _ (c .before .if1 .taken)
 
 bracket-ok-requires : tie.Need-bracket-ok-requires
 bracket-ok-requires c κs = search needs
 
 returns-2 : tie.Need-returns-2
-returns-2 c = c .bracket-ok .ensures ∙ term-bracket _ _ _ (c .before .if2 .taken) ∙ ap (termRule _ _) (c .before .before .before .before .before .get-term .ensures)
+returns-2 c = c .bracket-ok .ensures ∙ term-bracket _ _ _ (c .before .if2 .taken)
 
 returns-3 : tie.Need-returns-3
-returns-3 c = term-unknown _ _ _ (c .before .if3 .taken) ∙ ap (termRule _ _) (c .before .before .before .before .before .before .before .get-term .ensures)
+returns-3 c = term-unknown _ _ _ (c .before .if3 .taken)
 
 returns-4 : tie.Need-returns-4
-returns-4 c = term-none _ _ _ (search needs) ∙ ap (termRule _ _) (c .before .before .before .before .before .before .get-term .ensures)
+returns-4 c = term-none _ _ _ (search needs)
 
 pub term-ok-spec : {M : Type 1} → statement M
 term-ok-spec =
     tie.close
-    (tie.spec
-    get-term-requires
-    symbol-ok-requires
-    returns
-    bracket-ok-requires
-    returns-2
-    returns-3
-    returns-4)
+    (tie.spec symbol-ok-requires returns bracket-ok-requires returns-2 returns-3 returns-4)

@@ -1,58 +1,42 @@
--- `terms_ok`: after i terms the rule of all is that of the terms from i on; a term that fails decides it, one that holds leaves the rest.
+-- `terms_ok`: the tables start at 0, as tables of no terms, and have room for the used terms.
 use borrow.Author.Needs.{needs}
-use mathlib.Core.Path.{_≡_, ap, sym, _∙_}
-use mathlib.Core.List.{[]}
-use Prim.Native.Nat.{_≤_, _-_}
-use borrow.Author.Tests.{not-true, not-false}
-use Rattle.term_spec.specs.Words.{decode}
-use Rattle.term_spec.specs.Term.{termLayout, termsRule}
-use Rattle.value.specs.CheckLaws.{restRule, rest-all, rest-more, rest-none}
+use Rattle.value.specs.BlockLaws.{tables-none}
 use Rattle.value.proofs.terms_ok.Statement.{statement}
 use Rattle.value.proofs.terms_ok.Tie as tie
 
-abbrev Inv-loop : tie.InvT-loop
-Inv-loop names terms used i₀ i = (i ≤ used) × (termsRule names [] (decode termLayout used terms) ≡ restRule names terms used i)
+slice-aggregate-all-ok : tie.Need-slice-aggregate-all-ok
+slice-aggregate-all-ok c = search needs
 
-abbrev μ-loop : tie.MeasureT-loop
-μ-loop names terms used i₀ i = used - i
+slice-aggregate-all-ok-2 : tie.Need-slice-aggregate-all-ok-2
+slice-aggregate-all-ok-2 c = search needs
 
-loop-holds : tie.Need-loop-holds Inv-loop μ-loop
-loop-holds c = (search needs, rest-all _ _ _)
+all-ok-requires : tie.Need-all-ok-requires
+all-ok-requires c κs = (search needs, (search needs, tables-none _ 32 1))
 
-term-ok-requires : tie.Need-term-ok-requires Inv-loop μ-loop
-term-ok-requires c κs = search needs
+returns : tie.Need-returns
+returns c = search needs
 
-returns : tie.Need-returns Inv-loop μ-loop
-returns c =
-    let b = sym (c .before .term-ok .ensures) ∙ not-true _ (c .if1 .taken) in
-    sym (c .before .before .before .loop .inv .1 ∙ rest-more _ _ _ _ (c .before .before .loop-test .taken) b)
+slice-aggregate-all-ok-3 : tie.Need-slice-aggregate-all-ok-3
+slice-aggregate-all-ok-3 c = search needs
 
-add-i : tie.Need-add-i Inv-loop μ-loop
-add-i c = search needs
+slice-aggregate-all-ok-4 : tie.Need-slice-aggregate-all-ok-4
+slice-aggregate-all-ok-4 c = search needs
 
-loop-less : tie.Need-loop-less Inv-loop μ-loop
-loop-less c = search needs
+all-ok-requires-2 : tie.Need-all-ok-requires-2
+all-ok-requires-2 c κs = (search needs, (search needs, tables-none _ 2048 64))
 
-loop-again : tie.Need-loop-again Inv-loop μ-loop
-loop-again c =
-    let b = sym (c .before .term-ok .ensures) ∙ not-false _ (c .if1 .left) in
-    (search needs, c .before .before .before .loop .inv .1 ∙ rest-more _ _ _ _ (c .before .before .loop-test .taken) b)
-
-returns-2 : tie.Need-returns-2 Inv-loop μ-loop
-returns-2 c =
-    let e : c .before .loop .i ≡ c .before .before .before .before .args .used = search needs in
-    sym (c .before .loop .inv .1 ∙ ap (restRule _ _ _) e ∙ rest-none _ _ _)
+returns-2 : tie.Need-returns-2
+returns-2 c = search needs
 
 pub terms-ok-spec : {M : Type 1} → statement M
 terms-ok-spec =
     tie.close
     (tie.spec
-    Inv-loop
-    μ-loop
-    loop-holds
-    term-ok-requires
+    slice-aggregate-all-ok
+    slice-aggregate-all-ok-2
+    all-ok-requires
     returns
-    add-i
-    loop-less
-    loop-again
+    slice-aggregate-all-ok-3
+    slice-aggregate-all-ok-4
+    all-ok-requires-2
     returns-2)

@@ -1,4 +1,5 @@
-//! The port's calls: stores and arguments as owned words, and the static library's functions behind them.
+//! The port's calls: stores and arguments as owned words, and the static library's functions behind them. The benchmark (rust/benchmark) makes
+//! its calls with this file too.
 
 /// What every call is lent.
 #[derive(Clone, PartialEq)]
@@ -165,8 +166,9 @@ pub fn run(store: &Store, call: &Call) -> Outcome {
     Outcome { answer, values, store, lent }
 }
 
+/// Makes a call that builds a field in the store itself.
 #[rustfmt::skip]
-fn build(s: &mut Store, call: &Call, out: &mut [usize]) -> usize {
+pub fn build(s: &mut Store, call: &Call, out: &mut [usize]) -> usize {
     let (n, nl, t, tl, tu) = (s.names.as_ptr(), s.names.len(), s.terms.as_ptr(), s.terms.len(), s.terms_used);
     let (d, dl, du) = (s.nodes.as_mut_ptr(), s.nodes.len(), &mut s.nodes_used as *mut usize);
     let [node, len] = out else { unreachable!() };
@@ -179,8 +181,9 @@ fn build(s: &mut Store, call: &Call, out: &mut [usize]) -> usize {
     }
 }
 
+/// Makes a call that writes to no store.
 #[rustfmt::skip]
-fn read(s: &Store, call: &Call, work: &mut [u32], out: &mut [usize]) -> usize {
+pub fn read(s: &Store, call: &Call, work: &mut [u32], out: &mut [usize]) -> usize {
     let (n, nl, t, tl, tu) = (s.names.as_ptr(), s.names.len(), s.terms.as_ptr(), s.terms.len(), s.terms_used);
     let (d, dl, du, o) = (s.nodes.as_ptr(), s.nodes.len(), s.nodes_used, out.as_mut_ptr());
     match call {
@@ -196,8 +199,9 @@ fn read(s: &Store, call: &Call, work: &mut [u32], out: &mut [usize]) -> usize {
     }
 }
 
+/// Makes a match on the store itself.
 #[rustfmt::skip]
-fn list(s: &mut Store, r: &Request, slots: &mut [u32], out: &mut [usize]) -> usize {
+pub fn list(s: &mut Store, r: &Request, slots: &mut [u32], out: &mut [usize]) -> usize {
     let (n, nl, t, tl) = (s.names.as_ptr(), s.names.len(), s.terms.as_mut_ptr(), s.terms.len());
     let (d, dl, du, o) = (s.nodes.as_ptr(), s.nodes.len(), s.nodes_used, out.as_mut_ptr());
     let call = if r.first { naldrev_match_pattern_first } else { naldrev_match_pattern_with_bindings_candidates };

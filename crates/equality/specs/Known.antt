@@ -1,0 +1,36 @@
+-- What comparing within a budget tells, and what a table of terms known to be equal says.
+use mathlib.Core.Path.{_≡_}
+use mathlib.Core.List.{List}
+use mathlib.Core.Bool.{Bool, true, false}
+use lib.ListN.{getD}
+use Prim.Native.Nat.{ℕ, _-_, _≤_}
+use Rattle.term_spec.specs.Value.{Value, char, canon}
+use Rattle.value.specs.Equal.{valuesIn}
+use Rattle.equality.specs.declared.Outcome.{Outcome}
+use Rattle.equality.specs.declared.Outcome.the-variants.{Different, Equal, Spent}
+
+-- What an outcome says of whether two terms or runs are equal; a spent budget says nothing.
+unfoldable pub Tells : Outcome → Bool → Type 0
+Tells Different b = b ≡ false
+Tells (Equal left) b = b ≡ true
+Tells Spent b = Unit {0}
+
+-- The canonical form of term i: two terms are equal when these are.
+unfoldable pub formAt : List ℕ → List ℕ → ℕ → ℕ → Value
+formAt names w used i = canon (getD (valuesIn names w used) i (char 0))
+
+-- A table leads from each term so far down: to an earlier term, or to itself.
+abbrev pub Down : List ℕ → Type 0
+Down known = (x : ℕ) → getD known x 0 ≤ x
+
+-- And to one with the same form.
+pub record Remembers (form : ℕ → Value) (known : List ℕ) : Type 0 where
+  pub down : Down known
+  pub same : (x : ℕ) → form x ≡ form (x - getD known x 0)
+
+-- A term that x leads to, and the table after looking for it: whatever the forms are, it remembers as before.
+pub record Found (before after : List ℕ) (x r : ℕ) : Type 0 where
+  pub low : r ≤ x
+  pub down : Down after
+  pub kept : (form : ℕ → Value) → Remembers form before → Remembers form after
+  pub same : (form : ℕ → Value) → Remembers form before → form x ≡ form r

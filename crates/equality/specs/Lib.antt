@@ -1,0 +1,5 @@
+pub mod Compare
+pub mod CompareLaws
+pub mod Known
+pub mod KnownLaws
+pub mod RunLaws

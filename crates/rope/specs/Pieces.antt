@@ -1,0 +1,87 @@
+-- What is to be read of a rope next: a piece of a node's terms, then the fields that wait on a stack of words, two words to a field.
+use mathlib.Core.Path.{_≡_}
+use mathlib.Core.List.{List, [], _∷_, _++_}
+use lib.ListN.{length, getD, take, drop}
+use Prim.Native.Nat.{ℕ, suc, zero, _+_, _*_, _-_, _≤_, _<_, min}
+use native.Mathlib.Decide.{decLt}
+use Rattle.term_spec.specs.ListLaws.{All}
+use Rattle.term_spec.specs.Term.{Term, Run}
+use Rattle.term_spec.specs.Value.{Value}
+use Rattle.view_spec.specs.Build.{ifDec}
+use Rattle.view_spec.specs.Node.{Node, Field, nodeAt, meaning, holds}
+use Rattle.rope.specs.declared.Piece.{Piece}
+
+-- `left` terms of a node after its first `skip`, then the fields `later`.
+pub record Rest : Type 0 where
+  pub node : ℕ
+  pub skip : ℕ
+  pub left : ℕ
+  pub later : List Field
+
+-- The fields on a stack of so many, the last one first.
+unfoldable pub waiting : List ℕ → ℕ → List Field
+waiting w zero = []
+waiting w (suc d) = record { node = getD w (d * 2) 0; len = getD w (d * 2 + 1) 0 } ∷ waiting w d
+
+-- A piece of the code with its stack.
+abbrev pub restOf : Piece → List ℕ → Rest
+restOf p w = record { node = p .node; skip = p .skip; left = p .left; later = waiting w (p .depth) }
+
+-- The terms of fields, one after another.
+unfoldable pub gives : {X : Type 0} → List X → List Node → List Field → List X
+gives xs ns [] = []
+gives xs ns (f ∷ fs) = holds xs ns f ++ gives xs ns fs
+
+-- The terms that are to be read next.
+abbrev pub remain : {X : Type 0} → List X → List Node → Rest → List X
+remain xs ns r = take (r .left) (drop (r .skip) (meaning xs ns (r .node))) ++ gives xs ns (r .later)
+
+-- A field that waits is one of the store's, and not empty.
+pub record Waits (ns : List Node) (f : Field) : Type 0 where
+  pub low : f .node < length ns
+  pub some : 1 ≤ f .len
+  pub reached : f .len ≤ (nodeAt ns (f .node)) .reach
+
+-- There is a term to read, and the piece and the fields lie in the store.
+pub record Ready (ns : List Node) (r : Rest) : Type 0 where
+  pub low : r .node < length ns
+  pub some : 1 ≤ r .left
+  pub reached : r .skip + r .left ≤ (nodeAt ns (r .node)) .reach
+  pub later : All (Waits ns) (r .later)
+
+-- What a rope is read over: the terms of a store, or their values.
+pub data Over : Type 0 where
+  terms : Over
+  values : Over
+
+abbrev pub Entry : Over → Type 0
+Entry terms = Term
+Entry values = Value
+
+-- The list a is the beginning of b.
+abbrev pub Starts : {X : Type 0} → List X → List X → Type 0
+Starts {X} a b = (y : List X) × (a ++ y ≡ b)
+
+-- t is ready, and its terms are the first of those of s.
+pub record Goes (ns : List Node) (used : ℕ) (s t : Rest) : Type 0 where
+  pub ready : Ready ns t
+  pub same : (o : Over) (xs : List (Entry o)) → length xs ≡ used → Starts (remain xs ns t) (remain xs ns s)
+
+-- A run begins k terms into node i: it is a Cons, and not all of its run is skipped.
+pub record Front (ns : List Node) (i k : ℕ) : Type 0 where
+  pub cons : (nodeAt ns i) .kind ≡ 1
+  pub inner : k < (nodeAt ns i) .b
+
+-- That run, of at most m terms.
+unfoldable pub front : List Node → ℕ → ℕ → ℕ → Run
+front ns i k m = record { start = (nodeAt ns i) .a + k; len = min m ((nodeAt ns i) .b - k) }
+
+-- The first of the fields becomes the piece, or, where there is none, what is given.
+unfoldable pub popped : List Field → Rest → Rest
+popped [] again = again
+popped (f ∷ fs) again = record { node = f .node; skip = 0; left = f .len; later = fs }
+
+-- What is to be read after k terms of the piece.
+unfoldable pub passed : Rest → ℕ → Rest → Rest
+passed r k again =
+    ifDec (decLt k (r .left)) (record { node = r .node; skip = r .skip + k; left = r .left - k; later = r .later }) (popped (r .later) again)

@@ -1,0 +1,30 @@
+-- Tables of the deepest bracket in each block of a term store: what they hold, for those who read them and while they are filled.
+use mathlib.Core.Path.{_≡_}
+use mathlib.Core.List.{List}
+use lib.ListN.{length, getD, set}
+use Prim.Native.Nat.{ℕ, _+_, _*_, _-_, _≤_, min, max}
+use Rattle.term_spec.specs.Term.{deepest}
+use Rattle.value.specs.Check.{runOf}
+
+-- A table for the terms below term i: entry k has the deepest bracket of block k, for each block of m terms that lies whole below i.
+pub record Whole (w : List ℕ) (m i : ℕ) (table : List ℕ) : Type 0 where
+  pub long : i ≤ length table * m
+  pub holds : (k : ℕ) → k * m + m ≤ i → getD table k 0 ≡ deepest (runOf w (k * m) m)
+
+-- The two tables that are read.
+pub record Blocks (w : List ℕ) (i : ℕ) (low high : List ℕ) : Type 0 where
+  pub lows : Whole w 32 i low
+  pub highs : Whole w 1024 i high
+
+-- A table whose entry k is at least d.
+unfoldable pub deepened : List ℕ → ℕ → ℕ → List ℕ
+deepened table k d = set table k (max (getD table k 0) d)
+
+-- A table that is being filled: entry k has the deepest of those terms of block k that are below term i.
+unfoldable pub Filled : List ℕ → ℕ → ℕ → List ℕ → Type 0
+Filled w m i table = (k : ℕ) → getD table k 0 ≡ deepest (runOf w (k * m) (min m (i - k * m)))
+
+-- The two tables while they are filled, i terms checked.
+pub record Tables (w : List ℕ) (i : ℕ) (low high : List ℕ) : Type 0 where
+  pub lows : Filled w 32 i low
+  pub highs : Filled w 1024 i high
