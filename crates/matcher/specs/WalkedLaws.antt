@@ -1,27 +1,23 @@
 -- Laws of the walk in code, one for each exit: what is taken in of the walk's events, and where the walk may go on.
 use mathlib.Core.Path.{_≡_, refl, ap, ap₂, sym, _∙_, subst}
-use mathlib.Core.List.{List, [], _∷_, _++_, map, append-nil, head-eq-of-cons-eq}
-use mathlib.Core.Option.{Option, some, none}
+use mathlib.Core.List.{List, [], _∷_, _++_, map, append-nil}
+use mathlib.Core.Option.{none}
 use mathlib.Core.Bool.{Bool, true, false}
 use lib.Dec.{T}
-use lib.ListN.{length, getD, set, drop, length-map, length-append}
+use lib.ListN.{length, getD, set, drop, length-append}
 use Prim.Native.Nat.{ℕ, suc, zero, _+_, _-_, _*_, _/_, _<_, _≤_, max}
 use native.Mathlib.Numerals.{add-one}
-use native.Mathlib.Decide.{decLt}
 use native.Mathlib.Omega.{arith}
-use Rattle.term_spec.specs.ListLaws.{All, all-snoc, part-length}
+use Rattle.term_spec.specs.ListLaws.{All, all-snoc}
 use Rattle.term_spec.specs.Words.{decode, recordAt, count}
 use Rattle.term_spec.specs.WordsLaws.{decode-length}
-use Rattle.term_spec.specs.Term.{Term, Run, noRun, part, termLayout, runLayout}
-use Rattle.term_spec.specs.Value.{values, canon}
-use Rattle.term_spec.specs.TermLaws.{Valid, valid-terms, values-length}
-use Rattle.match_spec.specs.Element.{Element, lit, opening, closing, call, one, many, Level, canonE}
+use Rattle.term_spec.specs.Term.{Term, Run, termLayout, runLayout}
+use Rattle.term_spec.specs.TermLaws.{Valid, valid-terms}
+use Rattle.match_spec.specs.Element.{Element, many, canonE}
 use Rattle.match_spec.specs.Pattern.{Item, itemLayout, elementK, element, itemRuleK}
-use Rattle.match_spec.specs.Listing.{enter}
-use Rattle.match_spec.specs.Walk.{Event, hit, tried, reached, Reading, runs, cellsOf, strip, rigidFits, ends, upto, when, ifEmpty, finishWalk, leaveLevel, topLevel, spread, walk}
+use Rattle.match_spec.specs.Walk.{Event, hit, tried, reached, Reading, runs, cellsOf, rigidFits, ends, upto, when, walk}
 use Rattle.match_spec.specs.Answer.{going, called, Progress, Wanted, absorbOne, absorb}
 use Rattle.match_spec.specs.AnswerLaws.{absorb-done, absorb-full, absorb-called}
-use Rattle.match_spec.specs.WalkLaws.{strip-sound}
 use Rattle.match_spec.specs.RunLaws.{Inside}
 use Rattle.steps.specs.Turn.{next, turn, oneSplit, onward}
 use Rattle.steps.specs.TurnLaws.{walk-turn, Sound, sound-most, Stays, Kept, turn-kept, Grows, turn-grows}
@@ -34,6 +30,7 @@ use Rattle.steps.specs.State.{Place, placeOf, stackOf, levelOf, levelsOf, entri
 use Rattle.steps.specs.declared.What.{What}
 use Rattle.steps.specs.declared.What.the-variants.{Stop, Next, Split, Call}
 use Rattle.matcher.specs.Ready.{patternIn, statusOf, Ready}
+use Rattle.matcher.specs.EndLaws.{cells-size, end-all, end-more, end-hit, known-apart}
 
 -- ---- a listing that has stopped takes in nothing ----
 
@@ -107,109 +104,6 @@ fine-by (suc (suc (suc (suc (suc (suc (suc (suc k)))))))) names t x p d b m l h 
 pub sound-fine : (names : List ℕ) (t : Item) (x : ℕ) (p : List (Element ℕ)) (d b m : ℕ) → m ≤ 64 → Sound (coded names t x ∷ p) d b m → Fine (t .kind) x d b
 unfolding coded element
 sound-fine names t x p d b m l h = fine-by (t .kind) names t x p d b m l h
-
--- ---- what the cells of a run inside the terms are ----
-
-cells-size : (names : List ℕ) (ts : List Term) (r : Run) → Inside (length ts) r → length (cellsOf names ts r) ≡ r .len
-unfolding cellsOf
-cells-size names ts r h =
-    length-map (part (values names ts) r) canon ∙ part-length (values names ts) (r .start) (r .len) (omega (arith, values-length names ts))
-
-empty-cells : (c : Level) → length c ≡ 0 → c ≡ []
-empty-cells [] h = refl
-empty-cells (v ∷ c) h = absurd (omega arith)
-
--- ---- the end of the pattern ----
-
-module _ (names : List ℕ) (ts : List Term) (m : ℕ) (r : Run) (env : List Run) where
-  open-end : (st : List Run) → length st ≡ 0 → walk (runs names ts) [] (r ∷ st) env ≡ ifEmpty (cellsOf names ts r) (hit env ∷ [])
-  unfolding walk finishWalk
-  open-end [] e = refl
-  open-end (q ∷ st) e = absurd (omega arith)
-
-  more-left : (c : Level) (l : List (Event (List Run))) → 1 ≤ length c → ifEmpty c l ≡ []
-  unfolding ifEmpty
-  more-left [] l h = absurd (omega arith)
-  more-left (v ∷ c) l h = refl
-
-  none-left : (c : Level) (l : List (Event (List Run))) → length c ≡ 0 → ifEmpty c l ≡ l
-  unfolding ifEmpty
-  none-left [] l h = refl
-  none-left (v ∷ c) l h = absurd (omega arith)
-
-  module _ (p : List (Element ℕ)) (e : p ≡ []) (st : List Run) (s : Stays (length ts) p m r st env) where
-    end-around : length st ≡ 0
-    unfolding Sound
-    end-around = (subst (λ z. Sound z (length st) (length env) m) e (s .sound)) .0
-
-    pub end-all : length env ≡ m
-    unfolding Sound
-    end-all = (subst (λ z. Sound z (length st) (length env) m) e (s .sound)) .1
-
-    pub end-more : (r .len ≡ 0 → ⊥) → walk (runs names ts) p (r ∷ st) env ≡ []
-    end-more h = ap (λ z. walk (runs names ts) z (r ∷ st) env) e ∙ open-end st end-around
-        ∙ more-left (cellsOf names ts r) _ (omega (arith, cells-size names ts r (s .level-in)))
-
-    pub end-hit : r .len ≡ 0 → walk (runs names ts) p (r ∷ st) env ≡ hit env ∷ []
-    end-hit h = ap (λ z. walk (runs names ts) z (r ∷ st) env) e ∙ open-end st end-around
-        ∙ none-left (cellsOf names ts r) _ (cells-size names ts r (s .level-in) ∙ h)
-
--- ---- a known e-variable that ends its level ----
-
-module _ (names : List ℕ) (ts : List Term) (r : Run) (st env : List Run) (some : 1 ≤ length (cellsOf names ts r)) where
-  left-over : (c : Level) (l : List (Event (List Run))) → 1 ≤ length c → ifEmpty c l ≡ []
-  unfolding ifEmpty
-  left-over [] l h = absurd (omega arith)
-  left-over (v ∷ c) l h = refl
-
-  -- a level that ends with terms left has no candidate
-  ends-early : (p : List (Element ℕ)) → ends p ≡ true → walk (runs names ts) p (r ∷ st) env ≡ []
-  unfolding walk ends finishWalk leaveLevel
-  ends-early [] e = go st
-    where
-      go : (us : List Run) → finishWalk (runs names ts) (r ∷ us) env ≡ []
-      go [] = left-over (cellsOf names ts r) _ some
-      go (q ∷ us) = refl
-  ends-early (lit v ∷ p) e = let z : _≡_ {A = ℕ} 0 1 = cc in absurd (omega arith)
-  ends-early (opening ∷ p) e = let z : _≡_ {A = ℕ} 0 1 = cc in absurd (omega arith)
-  ends-early (closing ∷ p) e = go st
-    where
-      go : (us : List Run) → leaveLevel (runs names ts) (r ∷ us) (λ z. walk (runs names ts) p z env) ≡ []
-      go [] = refl
-      go (q ∷ us) = left-over (cellsOf names ts r) _ some
-  ends-early (call ∷ p) e = let z : _≡_ {A = ℕ} 0 1 = cc in absurd (omega arith)
-  ends-early (one k n ∷ p) e = let z : _≡_ {A = ℕ} 0 1 = cc in absurd (omega arith)
-  ends-early (many n ∷ p) e = let z : _≡_ {A = ℕ} 0 1 = cc in absurd (omega arith)
-
--- a known e-variable takes its own terms
-spread-known : {P : Type 0} (rd : Reading Run) (d : Dec P) (b : Bool) (x : Run) (p : List (Element ℕ)) (env : List Run) (r : Run) (f : Run → List Run → List (Event (List Run)))
-    → P → spread rd d b x p env r f ≡ enter (strip (rd .cells x) (rd .cells r)) (λ t. f (rd .back (length (rd .cells x)) r) env)
-unfolding spread
-spread-known rd (yes h) b x p env r f k = refl
-spread-known rd (no h) b x p env r f k = absurd (h k)
-
-module _ (names : List ℕ) (ts : List Term) (p : List (Element ℕ)) (x : ℕ) (r : Run) (st env : List Run) (inside : Inside (length ts) r) (e : ends p ≡ true)
-    (known : x < length env) (v-in : Inside (length ts) (getD env x noRun)) (apart : (getD env x noRun) .len ≡ r .len → ⊥) where
-  abbrev known-run : Run
-  known-run = getD env x noRun
-
-  -- what is left of the level after the variable's terms, if they fit
-  after-known : (o : Option Level) → strip (cellsOf names ts known-run) (cellsOf names ts r) ≡ o
-      → enter o (λ t. walk (runs names ts) p (record { start = r .start + length (cellsOf names ts known-run); len = r .len - length (cellsOf names ts known-run) } ∷ st) env) ≡ []
-  unfolding enter
-  after-known none q = refl
-  after-known (some t) q =
-      let l : length (cellsOf names ts r) ≡ length (cellsOf names ts known-run) + length t =
-      ap length (strip-sound (cellsOf names ts known-run) (cellsOf names ts r) t q) ∙ length-append (cellsOf names ts known-run) t in
-      let a = cells-size names ts r inside in
-      let b = cells-size names ts known-run v-in in
-      let n : r .len ≡ length (cellsOf names ts known-run) → ⊥ = λ z. apart (sym b ∙ sym z) in
-      ends-early names ts _ st env
-      (omega (arith, cells-size names ts (record { start = r .start + length (cellsOf names ts known-run); len = r .len - length (cellsOf names ts known-run) }) (omega arith))) p e
-
-  pub known-apart : walk (runs names ts) (many x ∷ p) (r ∷ st) env ≡ []
-  unfolding walk topLevel
-  known-apart = spread-known (runs names ts) (decLt x (length env)) (ends p) known-run p env r _ known ∙ after-known (strip (cellsOf names ts known-run) (cellsOf names ts r)) refl
 
 -- ---- one split ----
 

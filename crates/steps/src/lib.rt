@@ -29,7 +29,7 @@ pub struct State {
     pub bound: usize,
 }
 
-// The words of the levels: 32, and the place after them that a record at full depth would use.
+// The words of 32 levels, and of the place after them, which is read where all 32 are used.
 pub const LEVEL_WORDS: usize = 66;
 
 // The words of the entries: 64 runs.

@@ -3,7 +3,6 @@ use mathlib.Core.Path.{_≡_}
 use Prim.Native.Nat.{ℕ, _+_, _*_, _≤_, _-_}
 use native.Mathlib.Omega.{arith}
 use lib.ListN.{length}
-use borrow.Author.Needs.{needs}
 use Rattle.match_spec.specs.Answer.{afterOne}
 use Rattle.steps.specs.State.{entriesIn}
 use Rattle.matcher.specs.Ready.{statusOf, wantedOf}

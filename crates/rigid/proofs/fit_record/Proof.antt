@@ -1,5 +1,4 @@
 -- `rigid::fit_record`: each exit is one law of a record of the run.
-use borrow.Author.Needs.{needs}
 use borrow.Author.Tests.{not-true, not-false}
 use native.Mathlib.Omega.{arith}
 use Rattle.steps.specs.StepLaws.{entry-in}

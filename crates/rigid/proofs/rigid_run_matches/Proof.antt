@@ -1,6 +1,5 @@
 -- `rigid::rigid_run_matches`: the loop keeps what is left of the run; each exit is one law of it.
 use Prim.Native.Nat.{_-_}
-use mathlib.Core.Path.{refl}
 use borrow.Author.Needs.{needs}
 use native.Mathlib.Omega.{arith}
 use Rattle.term_spec.specs.Words.{count}
