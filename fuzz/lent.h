@@ -3,6 +3,7 @@
 #ifndef FUZZ_LENT_H
 #define FUZZ_LENT_H
 
+#include "run.h"
 #include "sheets.h"
 
 #include <signal.h>
@@ -11,9 +12,8 @@
 
 /* ---- where a fault is ---- */
 
-static uint64_t seed = 1, cases = 100000, current_case, calls;
 static const char *current_call = "none";
-static uint64_t answers[17], calls_of[15];
+static uint64_t calls, calls_of[15];
 
 static void where(const char *what)
 {

@@ -5,6 +5,7 @@
    --keep.
    Exit status: 0 no fault, 1 a fault (with its seed and case), 2 bad usage. */
 #define _GNU_SOURCE
+#include "run.h"
 #include "sheets.h"
 
 #include <fcntl.h>
@@ -14,7 +15,7 @@
 #include <unistd.h>
 
 static struct Text printed;
-static uint64_t seed = 1, cases = 1000, current_case, answers[17], pieces;
+static uint64_t pieces;
 static const char *program, *keep;
 static bool use_valgrind;
 
@@ -196,22 +197,14 @@ static void run_case(void)
 
 int main(int argc, char **argv)
 {
-    uint64_t first = 0;
+    cases = 1000;
     program = argc > 1 ? argv[1] : NULL;
     for (int i = 2; i < argc; i++) {
-        bool more = i + 1 < argc;
         if (strcmp(argv[i], "--valgrind") == 0)
             use_valgrind = true;
-        else if (strcmp(argv[i], "--keep") == 0 && more)
+        else if (strcmp(argv[i], "--keep") == 0 && i + 1 < argc)
             keep = argv[++i];
-        else if (strcmp(argv[i], "--seed") == 0 && more)
-            seed = strtoull(argv[++i], NULL, 10);
-        else if (strcmp(argv[i], "--cases") == 0 && more)
-            cases = strtoull(argv[++i], NULL, 10);
-        else if (strcmp(argv[i], "--case") == 0 && more) {
-            first = strtoull(argv[++i], NULL, 10);
-            cases = 1;
-        } else
+        else if (!takes_option(argc, argv, &i))
             program = NULL;
     }
     if (program == NULL) {
@@ -222,13 +215,10 @@ int main(int argc, char **argv)
     input_file = memfd_create("input", MFD_CLOEXEC);
     output_file = memfd_create("output", MFD_CLOEXEC);
     check(input_file >= 0 && output_file >= 0, "memfd_create");
-    for (current_case = first; current_case < first + cases; current_case++)
+    for (current_case = first_case; current_case < first_case + cases; current_case++)
         run_case();
-    printf("seed %llu: %llu sheets, %llu of them in two pieces, no fault\nanswers:", (unsigned long long)seed, (unsigned long long)cases,
+    printf("seed %llu: %llu sheets, %llu of them in two pieces, no fault\n", (unsigned long long)seed, (unsigned long long)cases,
            (unsigned long long)pieces);
-    for (size_t i = 0; i < 17; i++)
-        if (answers[i] > 0)
-            printf(" %zu: %llu", i, (unsigned long long)answers[i]);
-    printf("\n");
+    print_answers();
     return 0;
 }

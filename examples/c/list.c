@@ -1,5 +1,5 @@
 /* Lists e.1 '-' e.2 on the field -- and prints each candidate: e.1 empty first, then e.2 empty.
-   From the repository's folder, after `rt staticlib refal`:
+   From the repository's folder, after `tools/build library`:
      gcc -Wall -Wextra -Iinclude examples/c/list.c target/staticlib/librefal.a -o target/list && target/list */
 #include <naldrev.h>
 #include <stdio.h>

@@ -1,44 +1,55 @@
-// Finds the static library of the proved code, librefal.a: in NALDREV_LIB_DIR, else in target/staticlib of the repository, else by having
-// `rt` write it there.
+// Links the static library of the proved code, librefal.a: from NALDREV_LIB_DIR, else from target/staticlib of the repository, where tools/build
+// makes it if it is missing or older than a source. The drivers in rust/differential and rust/benchmark use this file too.
 use std::path::{Path, PathBuf};
-use std::process::{exit, Command};
+use std::process::Command;
 
 const FILE: &str = "librefal.a";
 
 fn stop(why: &str) -> ! {
     eprintln!("naldrev: {why}");
-    eprintln!("naldrev: to get {FILE}, run `rt staticlib refal` in the repository's folder with the Rattle toolchain on the path;");
+    eprintln!("naldrev: to get {FILE}, run `tools/build library` in the repository's folder with the Rattle toolchain on the path;");
     eprintln!("naldrev: or set NALDREV_LIB_DIR to a folder that holds {FILE}.");
-    exit(1)
+    std::process::exit(1)
 }
 
-fn link(dir: &Path) {
-    println!("cargo:rerun-if-changed={}", dir.join(FILE).display());
-    println!("cargo:rustc-link-search=native={}", dir.display());
-    println!("cargo:rustc-link-lib=static=refal");
-}
-
-fn main() {
-    println!("cargo:rerun-if-changed=build.rs");
-    println!("cargo:rerun-if-env-changed=NALDREV_LIB_DIR");
-    if let Some(dir) = std::env::var_os("NALDREV_LIB_DIR") {
-        let dir = PathBuf::from(dir);
-        if !dir.join(FILE).is_file() {
-            stop(&format!("NALDREV_LIB_DIR is {}, and {FILE} is not there", dir.display()));
-        }
-        return link(&dir);
-    }
+/// The repository's folder: the nearest one above the package that has crates.txt.
+fn root() -> PathBuf {
     let Some(here) = std::env::var_os("CARGO_MANIFEST_DIR") else {
         stop("CARGO_MANIFEST_DIR is not set: build with cargo");
     };
-    let root = Path::new(&here).join("../..");
-    let dir = root.join("target/staticlib");
-    if dir.join(FILE).is_file() {
-        return link(&dir);
+    match Path::new(&here).ancestors().find(|folder| folder.join("crates.txt").is_file()) {
+        Some(folder) => folder.to_path_buf(),
+        None => stop("the package does not stand in its repository"),
     }
-    match Command::new("rt").args(["staticlib", "refal"]).current_dir(&root).status() {
-        Ok(status) if status.success() && dir.join(FILE).is_file() => link(&dir),
-        Ok(status) => stop(&format!("{FILE} is not in {}, and `rt staticlib refal` failed ({status})", dir.display())),
-        Err(error) => stop(&format!("{FILE} is not in {}, and `rt` could not be run ({error})", dir.display())),
+}
+
+/// Has tools/build look whether the library is there and newer than its sources, and make it where it is not. What it says are warnings.
+fn made(root: &Path) -> PathBuf {
+    for source in ["crates", "crates.txt"] {
+        println!("cargo:rerun-if-changed={}", root.join(source).display());
     }
+    match Command::new(root.join("tools/build")).arg("library").output() {
+        Ok(output) => {
+            for line in String::from_utf8_lossy(&output.stderr).lines() {
+                println!("cargo:warning={line}");
+            }
+            if !output.status.success() {
+                stop(&format!("`tools/build library` failed ({})", output.status));
+            }
+        }
+        Err(error) => println!("cargo:warning=tools/build could not be run ({error}): {FILE} may be older than its sources"),
+    }
+    root.join("target/staticlib")
+}
+
+fn main() {
+    println!("cargo:rerun-if-env-changed=NALDREV_LIB_DIR");
+    let folder = std::env::var_os("NALDREV_LIB_DIR").map_or_else(|| made(&root()), PathBuf::from);
+    let library = folder.join(FILE);
+    if !library.is_file() {
+        stop(&format!("{FILE} is not in {}", folder.display()));
+    }
+    println!("cargo:rerun-if-changed={}", library.display());
+    println!("cargo:rustc-link-search=native={}", folder.display());
+    println!("cargo:rustc-link-lib=static=refal");
 }

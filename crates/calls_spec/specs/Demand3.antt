@@ -17,7 +17,9 @@ use Rattle.match_spec.specs.Element.{Env}
 use Rattle.match_spec.specs.Consistent.{Consistent, setForm, Before, Sorted}
 use Rattle.match_spec.specs.Answer.{allOfThem}
 use Rattle.calls_spec.specs.Store.{Store, spelled, shows, fieldTerms, countsRule, storeTerms, storeNodes}
-use Rattle.calls_spec.specs.Step.{Request, Call, callFromRuns, callJoin, callTake, callRest, callRange, callStartsWith, callEqual, callFlatten, callMatch, Answer, refused, built, truth, inStore, inWork, listed, After, patternOf, startNames, numberedPattern, startRuns, slotCount, input, room, step}
+use Rattle.calls_spec.specs.Step.{Request, Call, callFromRuns, callJoin, callTake, callRest, callRange, callStartsWith, callEqual, callFlatten}
+use Rattle.calls_spec.specs.Step.{callMatch, Answer, built, Effect, quiet, making, effectOf, slotsFilled, slotNames, After, patternOf, startNames}
+use Rattle.calls_spec.specs.Step.{numberedPattern, startRuns, slotCount, input, room, step}
 
 -- ---- a list of calls: "Each call gets the stores and counts the last one left, the names unchanged" ----
 
@@ -64,28 +66,48 @@ unfoldable pub modelTerms : Model → Store → Field → List Value
 modelTerms [] s f = fieldTerms s f
 modelTerms (e ∷ b) s f = ifDec (sameField? f (e .0)) (e .1) (modelTerms b s f)
 
--- What a call enters, from its arguments and the stores s it was lent; h gives the terms of a field. "`from_runs` enters the terms of its
--- runs in order; `join` the left's, then the right's; `rest` its field's after the first c; `range` those of its field inside its range."
--- (`take`, which 01's lists do not have, as `range` from 0.)
-unfoldable pub entered : (Field → List Value) → Store → Call → List Value
-entered h s (callFromRuns w) = parts (spelled s) (records runLayout w)
-entered h s (callJoin f g) = h f ++ h g
-entered h s (callTake f n) = take n (h f)
-entered h s (callRest f k) = drop k (h f)
-entered h s (callRange f k n) = take n (drop k (h f))
-entered h s (callStartsWith f g) = []
-entered h s (callEqual f g) = []
-entered h s (callFlatten f w) = []
-entered h s (callMatch q m) = []
+-- What is entered for a field: terms, or terms of other fields.
+pub data Entry : Type 0 where
+  says : List Value → Entry
+  joins : Field → Field → Entry
+  takes : Field → ℕ → Entry
+  drops : Field → ℕ → Entry
+  slices : Field → ℕ → ℕ → Entry
+
+-- Its terms; h gives those of a field.
+unfoldable pub enteredBy : (Field → List Value) → Entry → List Value
+enteredBy h (says vs) = vs
+enteredBy h (joins f g) = h f ++ h g
+enteredBy h (takes f n) = take n (h f)
+enteredBy h (drops f k) = drop k (h f)
+enteredBy h (slices f k n) = take n (drop k (h f))
+
+-- What a call enters, from its arguments and the stores s it was lent. "`from_runs` enters the terms of its runs in order; `join` the
+-- left's, then the right's; `rest` its field's after the first c, c its count; `range` those of its field inside its range." (`take`, which
+-- 01's lists do not have, as `range` from 0.) A call that answers no field enters nothing, whatever is said here.
+unfoldable pub entry : Store → Call → Entry
+entry s (callFromRuns w) = says (parts (spelled s) (records runLayout w))
+entry s (callJoin f g) = joins f g
+entry s (callTake f n) = takes f n
+entry s (callRest f k) = drops f k
+entry s (callRange f k n) = slices f k n
+entry s (callStartsWith f g) = says []
+entry s (callEqual f g) = says []
+entry s (callFlatten f w) = says []
+entry s (callMatch q m) = says []
+
+-- The terms that a call enters.
+abbrev pub entered : (Field → List Value) → Store → Call → List Value
+entered h s c = enteredBy h (entry s c)
 
 -- "the field answered, which only names the entry"; "Listings and refused calls enter nothing."
-unfoldable pub enterModel : Answer → Model → Store → Call → Model
-enterModel (refused n) b s c = b
-enterModel (built f) b s c = (f, entered (modelTerms b s) s c) ∷ b
-enterModel (truth t) b s c = b
-enterModel (inStore r) b s c = b
-enterModel (inWork n) b s c = b
-enterModel (listed n k j) b s c = b
+unfoldable pub enterBy : Effect → Model → List Value → Model
+enterBy quiet b vs = b
+enterBy (making f) b vs = (f, vs) ∷ b
+
+-- The model after one call.
+abbrev pub enterModel : Answer → Model → Store → Call → Model
+enterModel a b s c = enterBy (effectOf a) b (entered (modelTerms b s) s c)
 
 -- The model after the calls of a list.
 unfoldable pub model : Model → List Moment → Model
@@ -98,24 +120,6 @@ model b (m ∷ ms) = model (enterModel (m .after .answer) b (m .before) (m .call
 pub record Listing (r : Request) (m : Moment) : Type 0 where
   pub called : m .call ≡ callMatch allOfThem r
   pub within : input (m .before) (m .call) ≡ none
-
--- How many slots an answer says are filled.
-unfoldable pub slotsFilled : Answer → ℕ
-slotsFilled (refused n) = 0
-slotsFilled (built f) = 0
-slotsFilled (truth t) = 0
-slotsFilled (inStore r) = 0
-slotsFilled (inWork n) = 0
-slotsFilled (listed n c k) = c
-
--- How many names an answer says each slot has.
-unfoldable pub slotNames : Answer → ℕ
-slotNames (refused n) = 0
-slotNames (built f) = 0
-slotNames (truth t) = 0
-slotNames (inStore r) = 0
-slotNames (inWork n) = 0
-slotNames (listed n c k) = k
 
 -- c slots of k runs each, read from the words lent as slots.
 unfoldable pub readSlots : ℕ → ℕ → List ℕ → List (List Run)
@@ -130,15 +134,19 @@ listedRuns m = readSlots (slotsFilled (m .after .answer)) (slotNames (m .after .
 unfoldable pub candidatesOf : Moment → List Env
 candidatesOf m = map (map (shows (m .after .store))) (listedRuns m)
 
+-- A consistent extension of a listing's start, in the stores that the call was lent.
+abbrev pub Extension : Request → Moment → Env → Type 0
+Extension r m B =
+    Consistent (patternOf (m .before) r) (startNames (m .before) r) (map (shows (m .before)) (startRuns r)) (fieldTerms (m .before) (r .field)) B
+
 -- What is listed, against the consistent extensions.
 pub record Firsts (r : Request) (m : Moment) : Type 0 where
   -- every consistent extension, by its canonical form, ..
   pub all : List Env
-  pub complete : (B : Env) → Consistent (patternOf (m .before) r) (startNames (m .before) r) (map (shows (m .before)) (startRuns r)) (fieldTerms (m .before) (r .field)) B
-      → List·Memᴰ (setForm B) all
+  pub complete : (B : Env) → Extension r m B → List·Memᴰ (setForm B) all
   -- .. and nothing else, ..
   pub sound : (A : Env) → List·Memᴰ A all
-      → (B : Env) × Consistent (patternOf (m .before) r) (startNames (m .before) r) (map (shows (m .before)) (startRuns r)) (fieldTerms (m .before) (r .field)) B × (setForm B ≡ A)
+      → (B : Env) × Extension r m B × (setForm B ≡ A)
   -- .. in 01's order, ..
   pub order : Sorted (Before (numberedPattern (m .before) r) (length (startRuns r))) all
   -- .. once.
@@ -154,7 +162,8 @@ pub record Firsts (r : Request) (m : Moment) : Type 0 where
 
 -- The clauses, each under its own words.
 pub record Demand3 (s : Store) (calls : List Call) : Type 0 where
-  -- "fields hold what the model says": every entry is what its field holds at the end, with text as spelled and bracket contents, ..
+  -- "Each field it built holds the terms which the book in 01 gives it." Every entry is what its field holds at the end, with text as
+  -- spelled and bracket contents, ..
   pub entries : (f : Field) (ts : List Value) → List·Memᴰ (f, ts) (model [] (trace s calls)) → fieldTerms (final s calls) f ≡ ts
   -- .. every field that a call answered has an entry, ..
   pub entry-made : (m : Moment) (f : Field) → List·Memᴰ m (trace s calls) → m .after .answer ≡ built f
@@ -162,8 +171,8 @@ pub record Demand3 (s : Store) (calls : List Call) : Type 0 where
   -- .. and so holds what the model gives it, whatever stores the model is asked with.
   pub fields : (m : Moment) (f : Field) (other : Store) → List·Memᴰ m (trace s calls) → m .after .answer ≡ built f
       → fieldTerms (final s calls) f ≡ modelTerms (model [] (trace s calls)) other f
-  -- "candidates of two listings agree exactly when the fields hold equal terms and i = j": listings of fields F and G with one pattern and
-  -- one table of starting bindings; A is the i-th candidate of the first, B the j-th of the second.
+  -- "The i-th candidate listed for F gives every name terms equal to those the j-th listed for G gives it exactly when F and G hold equal
+  -- terms and i = j." The listings have one pattern and one table of starting bindings; A is the i-th candidate for F, B the j-th for G.
   pub agree : (m m′ : Moment) (F G : Field) (pattern bindings slots slots′ : List ℕ) → List·Memᴰ m (trace s calls) → List·Memᴰ m′ (trace s calls)
       → Listing (record { field = F; pattern = pattern; bindings = bindings; slots = slots }) m
       → Listing (record { field = G; pattern = pattern; bindings = bindings; slots = slots′ }) m′
@@ -171,5 +180,6 @@ pub record Demand3 (s : Store) (calls : List Call) : Type 0 where
       → (setForm A ≡ setForm B) ↔ ((forms (fieldTerms (final s calls) F) ≡ forms (fieldTerms (final s calls) G)) × (i ≡ j))
   -- a candidate's terms stay what its runs showed after its listing
   pub stay : (m : Moment) (r : Request) → List·Memᴰ m (trace s calls) → Listing r m → candidatesOf m ≡ map (map (shows (final s calls))) (listedRuns m)
-  -- "what is listed are the first consistent extensions in 01's order, and all of them, once, where slots and terms suffice"
+  -- "The listed candidates are the first consistent extensions of the starting bindings in 01's order, and where slots and terms suffice,
+  -- every consistent extension is listed, once."
   pub firsts : (m : Moment) (r : Request) → List·Memᴰ m (trace s calls) → Listing r m → Firsts r m

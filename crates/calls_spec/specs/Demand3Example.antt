@@ -9,19 +9,24 @@ use Rattle.term_spec.specs.Words.{decode, encode, count, whole, records, write}
 use Rattle.term_spec.specs.Text.{isLetter, isDigit, isNameByte, every, identifierText, numberText, variableText, textRule, lower}
 use Rattle.term_spec.specs.Table.{table}
 use Rattle.term_spec.specs.Term.{termOf, runOf, runRule, runsRule, isScalar, depthK, deepest, bracketRule, symbolRule, termRuleK, termRule, termsRule}
-use Rattle.term_spec.specs.Value.{toList, fromList, bracketed, contents, valueK, valueOf, values, canon, canons, heads?, list?, same?, sames?, takesTable, unknownColumn, column, takesRow, row, takes, decided, takes?, isYes}
+use Rattle.term_spec.specs.Value.{toList, fromList, bracketed, contents, valueK, valueOf, values, canon, canons, heads?, list?, same?, sames?, takesTable}
+use Rattle.term_spec.specs.Value.{unknownColumn, column, takesRow, row, takes, decided, takes?, isYes}
 use Rattle.view_spec.specs.Node.{nodeOf, nilRule, consRule, concatRule, nodeRuleK, nodeRule, eachNode, nodesRule, fieldRule, meaningK, meaningOf}
-use Rattle.view_spec.specs.Build.{ifDec, fuseHead, fuseOnto, fuse, chainHead, chain, total, parts, fromRuns, unclampK, unclampOf, unclamp, secondK, planK, planOf, plan, grow, planMakes, joinBy, join, dropK, dropOf, dropPlan, dropMakes, dropNode, shrink, takeField, rest, range}
+use Rattle.view_spec.specs.Build.{ifDec, fuseHead, fuseOnto, fuse, chainHead, chain, total, parts, fromRuns, unclampK, unclampOf, unclamp, secondK, planK}
+use Rattle.view_spec.specs.Build.{planOf, plan, grow, planMakes, joinBy, join, dropK, dropOf, dropPlan, dropMakes, dropNode, shrink, takeField, rest, range}
 use Rattle.view_spec.specs.Read.{place, copyAt, settledAt, equalTerms, startsWith}
-use Rattle.match_spec.specs.Pattern.{itemOf, bindingOf, nameAt, name?, findHere, find, addIf, add, namesAfter, number, elementK, element, bindingName, itemRuleK, closeRule, nestRuleK, noneOpen, itemsRule, patternRule, bindingRule, bindingsRule}
+use Rattle.match_spec.specs.Pattern.{itemOf, bindingOf, nameAt, name?, findHere, find, addIf, add, namesAfter, number, elementK, element, bindingName}
+use Rattle.match_spec.specs.Pattern.{itemRuleK, closeRule, nestRuleK, noneOpen, itemsRule, patternRule, bindingRule, bindingsRule}
 use Rattle.match_spec.specs.Element.{onTop, wrap, push, put, Ones, canonE}
 use Rattle.match_spec.specs.Consistent.{note, openLengths, Lex, Before, Sorted}
 use Rattle.match_spec.specs.Listing.{guard, each, bindIf, bind, first, enter, leave, cuts, finish, candidates}
-use Rattle.match_spec.specs.Walk.{cellsOf, strip, ifFits, atHead, through, ifKnown, rigidFits, ends, upto, when, withHead, ifEmpty, takeFirst, leaveLevel, finishWalk, bindRun, topLevel, spread, walk, hits}
+use Rattle.match_spec.specs.Walk.{cellsOf, strip, ifFits, atHead, through, ifKnown, rigidFits, ends, upto, when, withHead, ifEmpty, takeFirst, leaveLevel}
+use Rattle.match_spec.specs.Walk.{finishWalk, bindRun, topLevel, spread, walk, hits}
 use Rattle.match_spec.specs.Answer.{afterOne, writeHit, absorbOne, absorb, slotsIn, numberOf}
 use Rattle.calls_spec.specs.Store.{terms, nodes, spelled, shows, fieldTerms, capacity, countsRule, storeTerms, storeNodes, addTerms, addNodes}
-use Rattle.calls_spec.specs.Step.{answerNumber, slotsLent, workLent, ask, evenRule, arguments, input, build, nodeRoom, room, matchEvents, matchProgress, matchAnswer, concat, fillSlots, afterMatch, afterFlatten, afterBuild, afterRead, accept, refuse, decide, step}
-use Rattle.calls_spec.specs.Demand3.{trace, final, sameField?, modelTerms, entered, enterModel, model, slotsFilled, slotNames, readSlots, listedRuns, candidatesOf}
+use Rattle.calls_spec.specs.Step.{answerNumber, effectOf, slotsOf, ask, evenRequest, askRequest, flatAnswer, flatWork, matchEvents, matchProgress}
+use Rattle.calls_spec.specs.Step.{matchAnswer, concat, fillSlots, given, fits, changed, deed, input, room, accept, refuse, decide, step}
+use Rattle.calls_spec.specs.Demand3.{trace, final, sameField?, modelTerms, enteredBy, entry, enterBy, model, readSlots, listedRuns, candidatesOf}
 use Rattle.term_spec.specs.Value.{char, forms}
 use Rattle.view_spec.specs.Node.{Field}
 use Rattle.match_spec.specs.Element.{Env}
@@ -32,7 +37,14 @@ use Rattle.calls_spec.specs.Demand3.{Moment, Start, Listing, Demand3}
 use Rattle.calls_spec.specs.Demand3Laws.{demand3}
 
 abbrev store : Store
-store = record { names = 49 ∷ 50 ∷ []; termWords = (0 ∷ 45 ∷ 0 ∷ 0 ∷ []) ++ (0 ∷ 45 ∷ 0 ∷ 0 ∷ []) ++ replicate 16 0; termsUsed = 2; nodeWords = replicate 60 0; nodesUsed = 1 }
+store = record {
+  names = 49 ∷ 50 ∷ [];
+  termWords = (0 ∷ 45 ∷ 0 ∷ 0 ∷ []) ++ (0 ∷ 45 ∷ 0 ∷ 0 ∷ [])
+      ++ replicate 16 0;
+  termsUsed = 2;
+  nodeWords = replicate 60 0;
+  nodesUsed = 1;
+}
 
 abbrev request : Field → List ℕ → Request
 request f slots = record { field = f; pattern = (7 ∷ 0 ∷ 1 ∷ 0 ∷ []) ++ (0 ∷ 45 ∷ 0 ∷ 0 ∷ []) ++ (7 ∷ 1 ∷ 1 ∷ 0 ∷ []); bindings = []; slots = slots }
@@ -77,10 +89,22 @@ record Seen : Type 0 where
   run-lists : candidatesOf listsRun ≡ (firstOne ∷ secondOne ∷ [])
   rope-lists : candidatesOf listsRope ≡ (firstOne ∷ [])
   modelled : model [] (trace store calls)
-      ≡ ((field 3 1, char 45 ∷ []) ∷ (field 2 1, char 45 ∷ []) ∷ (field 3 2, char 45 ∷ char 45 ∷ []) ∷ (field 2 1, char 45 ∷ []) ∷ (field 1 2, char 45 ∷ char 45 ∷ []) ∷ [])
+      ≡ ((field 3 1, char 45 ∷ []) ∷ (field 2 1, char 45 ∷ []) ∷ (field 3 2, char 45 ∷ char 45 ∷ []) ∷ (field 2 1, char 45 ∷ []) ∷
+      (field 1 2, char 45 ∷ char 45 ∷ []) ∷ [])
 
 seen : Seen
-unfolding decode encode count whole records write isLetter isDigit isNameByte every identifierText numberText variableText textRule lower table termOf runOf runRule runsRule isScalar depthK deepest bracketRule symbolRule termRuleK termRule termsRule toList fromList bracketed contents valueK valueOf values canon canons heads? list? same? sames? takesTable unknownColumn column takesRow row takes decided takes? nodeOf nilRule consRule concatRule nodeRuleK nodeRule eachNode nodesRule fieldRule meaningK meaningOf ifDec fuseHead fuseOnto fuse chainHead chain total parts fromRuns unclampK unclampOf unclamp secondK planK planOf plan grow planMakes joinBy join dropK dropOf dropPlan dropMakes dropNode shrink takeField rest range place copyAt settledAt isYes equalTerms startsWith itemOf bindingOf nameAt name? findHere find addIf add namesAfter number elementK element bindingName itemRuleK closeRule nestRuleK noneOpen itemsRule patternRule bindingRule bindingsRule onTop wrap push put Ones canonE note openLengths Lex Before Sorted guard each bindIf bind first enter leave cuts finish candidates cellsOf strip ifFits atHead through ifKnown rigidFits ends upto when withHead ifEmpty takeFirst leaveLevel finishWalk bindRun topLevel spread walk hits afterOne writeHit absorbOne absorb slotsIn numberOf terms nodes spelled shows fieldTerms capacity countsRule storeTerms storeNodes addTerms addNodes answerNumber slotsLent workLent ask evenRule arguments input build nodeRoom room matchEvents matchProgress matchAnswer concat fillSlots afterMatch afterFlatten afterBuild afterRead accept refuse decide step trace final sameField? modelTerms entered enterModel model slotsFilled slotNames readSlots listedRuns candidatesOf ℕ-discrete decLe decLt
+unfolding decode encode count whole records write isLetter isDigit isNameByte every identifierText numberText variableText textRule lower table termOf runOf
+    runRule runsRule isScalar depthK deepest bracketRule symbolRule termRuleK termRule termsRule toList fromList bracketed contents valueK valueOf values
+    canon canons heads? list? same? sames? takesTable unknownColumn column takesRow row takes decided takes? nodeOf nilRule consRule concatRule nodeRuleK
+    nodeRule eachNode nodesRule fieldRule meaningK meaningOf ifDec fuseHead fuseOnto fuse chainHead chain total parts fromRuns unclampK unclampOf unclamp
+    secondK planK planOf plan grow planMakes joinBy join dropK dropOf dropPlan dropMakes dropNode shrink takeField rest range place copyAt settledAt isYes
+    equalTerms startsWith itemOf bindingOf nameAt name? findHere find addIf add namesAfter number elementK element bindingName itemRuleK closeRule nestRuleK
+    noneOpen itemsRule patternRule bindingRule bindingsRule onTop wrap push put Ones canonE note openLengths Lex Before Sorted guard each bindIf bind first
+    enter leave cuts finish candidates cellsOf strip ifFits atHead through ifKnown rigidFits ends upto when withHead ifEmpty takeFirst leaveLevel finishWalk
+    bindRun topLevel spread walk hits afterOne writeHit absorbOne absorb slotsIn numberOf terms nodes spelled shows fieldTerms capacity countsRule
+    storeTerms storeNodes addTerms addNodes answerNumber effectOf ask evenRequest askRequest flatAnswer flatWork matchEvents matchProgress matchAnswer
+    concat fillSlots given fits changed deed input room accept refuse decide step trace final sameField? modelTerms enteredBy entry enterBy model slotsOf
+    readSlots listedRuns candidatesOf ℕ-discrete decLe decLt
 seen = record {
   starts = record { counts = tt; good-terms = tt; good-nodes = tt; node-0-alone = refl };
   run-within = record { called = refl; within = refl };
@@ -105,6 +129,7 @@ holds = demand3 store calls (seen .starts)
 -- What the theorem says of these: the first candidates agree, so the fields hold equal terms.
 fields-agree : forms (fieldTerms (final store calls) (field 1 2)) ≡ forms (fieldTerms (final store calls) (field 3 2))
 fields-agree =
-    (holds .agree listsRun listsRope (field 1 2) (field 3 2) ((7 ∷ 0 ∷ 1 ∷ 0 ∷ []) ++ (0 ∷ 45 ∷ 0 ∷ 0 ∷ []) ++ (7 ∷ 1 ∷ 1 ∷ 0 ∷ [])) [] (replicate 8 0) (replicate 4 0)
+    (holds .agree listsRun listsRope (field 1 2) (field 3 2) ((7 ∷ 0 ∷ 1 ∷ 0 ∷ []) ++ (0 ∷ 45 ∷ 0 ∷ 0 ∷ []) ++ (7 ∷ 1 ∷ 1 ∷ 0 ∷ [])) [] (replicate 8 0)
+    (replicate 4 0)
     run-there rope-there (seen .run-within) (seen .rope-within) 0 0 firstOne firstOne
     (ap (λ l. getElem? l 0) (seen .run-lists)) (ap (λ l. getElem? l 0) (seen .rope-lists))) .0 refl .0

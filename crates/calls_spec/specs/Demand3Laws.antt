@@ -21,8 +21,10 @@ use Rattle.match_spec.specs.SoundLaws.{Numbered}
 use Rattle.match_spec.specs.OrderLaws.{sorted, lex-irrefl, sorted-once, same-place}
 use Rattle.match_spec.specs.RunLaws.{Inside}
 use Rattle.calls_spec.specs.Store.{Store, nodes, spelled, shows, fieldTerms}
-use Rattle.calls_spec.specs.Step.{Request, Call, callFromRuns, callJoin, callTake, callRest, callRange, callStartsWith, callEqual, callFlatten, callMatch, Answer, refused, built, truth, inStore, inWork, listed, items, bindings, numberedPattern, startRuns, arguments, input, room, step}
-use Rattle.calls_spec.specs.Demand3.{Moment, trace, final, Start, Model, sameField?, modelTerms, entered, enterModel, model, Listing, listedRuns, candidatesOf, Firsts, Demand3}
+use Rattle.calls_spec.specs.Step.{Request, Call, callMatch, built, Effect, quiet, making, effectOf, items, bindings, numberedPattern, startRuns}
+use Rattle.calls_spec.specs.Step.{arguments, input, room, step}
+use Rattle.calls_spec.specs.Demand3.{Moment, trace, final, Start, Model, sameField?, modelTerms, Entry, says, joins, takes, drops, slices, enteredBy}
+use Rattle.calls_spec.specs.Demand3.{entry, entered, enterBy, enterModel, model, Listing, listedRuns, candidatesOf, Firsts, Demand3}
 use Rattle.calls_spec.specs.StoreLaws.{Good, Later, later-refl, later-trans}
 use Rattle.calls_spec.specs.StepLaws.{input-none, Stepped, stepped}
 use Rattle.calls_spec.specs.ListingLaws.{Checked, checked, everyOne, startTerms, counted, consistent-listed, every-sound, wanted, Lists, lists}
@@ -48,7 +50,13 @@ fact s (c ∷ cs) m g i = go (stepped s c g) (λ h k. fact ((step s c) .store) c
   where
     go : Stepped s c (step s c) → (Good ((step s c) .store) → List·Memᴰ m (trace ((step s c) .store) cs) → Fact ((step s c) .store) cs m)
         → (m ≡ record { before = s; call = c; after = step s c }) ⊎ List·Memᴰ m (trace ((step s c) .store) cs) → Fact s (c ∷ cs) m
-    go z rec (inl e) = subst (Fact s (c ∷ cs)) (sym e) (record { good = g; after-is = refl; toward = z .later; onward = final-later ((step s c) .store) cs (z .later .good) })
+    go z rec (inl e) = subst (Fact s (c ∷ cs)) (sym e) (record {
+      good = g;
+      after-is = refl;
+      toward = z .later;
+      onward = final-later ((step s c) .store) cs
+          (z .later .good);
+    })
     go z rec (inr k) = let f = rec (z .later .good) k in record { good = f .good; after-is = f .after-is; toward = f .toward; onward = f .onward }
 
 -- ---- the model ----
@@ -70,67 +78,54 @@ model-true (e ∷ b) s f t = go (sameField? f (e .0)) (model-true b s f (t .1))
     go (yes h) ih = sym (t .0 .1) ∙ sym (same-holds s f (e .0) h)
     go (no h) ih = ih
 
-entered-same : (h k : Field → List Value) (s : Store) (c : Call) → ((f : Field) → h f ≡ k f) → entered h s c ≡ entered k s c
-unfolding entered
-entered-same h k s (callFromRuns w) e = refl
-entered-same h k s (callJoin f g) e = ap₂ _++_ (e f) (e g)
-entered-same h k s (callTake f n) e = ap (take n) (e f)
-entered-same h k s (callRest f n) e = ap (drop n) (e f)
-entered-same h k s (callRange f a n) e = ap (λ z. take n (drop a z)) (e f)
-entered-same h k s (callStartsWith f g) e = refl
-entered-same h k s (callEqual f g) e = refl
-entered-same h k s (callFlatten f w) e = refl
-entered-same h k s (callMatch q m) e = refl
+entry-same : (h k : Field → List Value) (x : Entry) → ((f : Field) → h f ≡ k f) → enteredBy h x ≡ enteredBy k x
+unfolding enteredBy
+entry-same h k (says vs) e = refl
+entry-same h k (joins f g) e = ap₂ _++_ (e f) (e g)
+entry-same h k (takes f n) e = ap (take n) (e f)
+entry-same h k (drops f n) e = ap (drop n) (e f)
+entry-same h k (slices f a n) e = ap (λ z. take n (drop a z)) (e f)
 
 true-later : (b : Model) (s t : Store) → Later s t → True b s → True b t
 unfolding All
 true-later [] s t l h = tt
 true-later (e ∷ b) s t l h = let (i, q) = l .fields (e .0) (h .0 .0) in ((i, q ∙ h .0 .1), true-later b s t l (h .1))
 
-enter-true : (a : Answer) (b : Model) (s t : Store) (c : Call) → True b s → Later s t → ((f : Field) → a ≡ built f → T (fieldRule (nodes t) f) × (fieldTerms t f ≡ entered (fieldTerms s) s c))
-    → True (enterModel a b s c) t
-unfolding enterModel All
-enter-true (refused n) b s t c h l k = true-later b s t l h
-enter-true (truth v) b s t c h l k = true-later b s t l h
-enter-true (inStore r) b s t c h l k = true-later b s t l h
-enter-true (inWork n) b s t c h l k = true-later b s t l h
-enter-true (listed n i j) b s t c h l k = true-later b s t l h
-enter-true (built f) b s t c h l k =
+enter-true : (x : Effect) (b : Model) (s t : Store) (c : Call) → True b s → Later s t
+    → ((f : Field) → x ≡ making f → T (fieldRule (nodes t) f) × (fieldTerms t f ≡ entered (fieldTerms s) s c))
+    → True (enterBy x b (entered (modelTerms b s) s c)) t
+unfolding enterBy All
+enter-true quiet b s t c h l k = true-later b s t l h
+enter-true (making f) b s t c h l k =
     let (g, q) = k f refl in
-    ((g, q ∙ sym (entered-same (modelTerms b s) (fieldTerms s) s c (λ z. model-true b s z h))), true-later b s t l h)
+    ((g, q ∙ sym (entry-same (modelTerms b s) (fieldTerms s) (entry s c) (λ z. model-true b s z h))), true-later b s t l h)
 
 all-true : (b : Model) (s : Store) (calls : List Call) → Good s → True b s → True (model b (trace s calls)) (final s calls)
 unfolding model trace final
 all-true b s [] g t = t
 all-true b s (c ∷ cs) g t =
     let z = stepped s c g in
-    all-true (enterModel ((step s c) .answer) b s c) ((step s c) .store) cs (z .later .good) (enter-true ((step s c) .answer) b s ((step s c) .store) c t (z .later) (z .builds))
+    all-true (enterModel ((step s c) .answer) b s c) ((step s c) .store) cs (z .later .good)
+    (enter-true (effectOf ((step s c) .answer)) b s ((step s c) .store) c t (z .later) (z .builds))
 
-enter-more : (a : Answer) (b : Model) (s : Store) (c : Call) (e : Field × List Value) → List·Memᴰ e b → List·Memᴰ e (enterModel a b s c)
-unfolding enterModel
-enter-more (refused n) b s c e i = i
-enter-more (truth v) b s c e i = i
-enter-more (inStore r) b s c e i = i
-enter-more (inWork n) b s c e i = i
-enter-more (listed n k j) b s c e i = i
-enter-more (built f) b s c e i = List·Memᴰ·tail i
+enter-more : (x : Effect) (b : Model) (vs : List Value) (e : Field × List Value) → List·Memᴰ e b → List·Memᴰ e (enterBy x b vs)
+unfolding enterBy
+enter-more quiet b vs e i = i
+enter-more (making f) b vs e i = List·Memᴰ·tail i
 
-entered-at : (a : Answer) (b : Model) (s : Store) (c : Call) (f : Field) → a ≡ built f → List·Memᴰ (f, entered (modelTerms b s) s c) (enterModel a b s c)
-unfolding enterModel
-entered-at (refused n) b s c f e = absurd (let z : _≡_ {A = ℕ} 0 1 = cc in omega arith)
-entered-at (truth v) b s c f e = absurd (let z : _≡_ {A = ℕ} 0 1 = cc in omega arith)
-entered-at (inStore r) b s c f e = absurd (let z : _≡_ {A = ℕ} 0 1 = cc in omega arith)
-entered-at (inWork n) b s c f e = absurd (let z : _≡_ {A = ℕ} 0 1 = cc in omega arith)
-entered-at (listed n k j) b s c f e = absurd (let z : _≡_ {A = ℕ} 0 1 = cc in omega arith)
-entered-at (built k) b s c f e = let q : f ≡ k = cc in List·Memᴰ·head (ap (λ z. (z, entered (modelTerms b s) s c)) q)
+entered-at : (x : Effect) (b : Model) (vs : List Value) (f : Field) → x ≡ making f → List·Memᴰ (f, vs) (enterBy x b vs)
+unfolding enterBy
+entered-at quiet b vs f e = absurd (let z : _≡_ {A = ℕ} 0 1 = cc in omega arith)
+entered-at (making k) b vs f e = let q : f ≡ k = cc in List·Memᴰ·head (ap (λ z. (z, vs)) q)
 
 model-keeps : (b : Model) (ms : List Moment) (e : Field × List Value) → List·Memᴰ e b → List·Memᴰ e (model b ms)
 unfolding model
 model-keeps b [] e i = i
-model-keeps b (m ∷ ms) e i = model-keeps _ ms e (enter-more (m .after .answer) b (m .before) (m .call) e i)
+model-keeps b (m ∷ ms) e i = model-keeps _ ms e (enter-more (effectOf (m .after .answer)) b _ e i)
 
-model-has : (b : Model) (ms : List Moment) (m : Moment) (f : Field) → List·Memᴰ m ms → m .after .answer ≡ built f → (ts : List Value) × List·Memᴰ (f, ts) (model b ms)
-unfolding model
+model-has : (b : Model) (ms : List Moment) (m : Moment) (f : Field) → List·Memᴰ m ms → m .after .answer ≡ built f
+    → (ts : List Value) × List·Memᴰ (f, ts) (model b ms)
+unfolding model effectOf
 model-has b [] m f i e = absurd (List·Memᴰ·not-nil i)
 model-has b (k ∷ ms) m f i e = go (λ j. model-has (enterModel (k .after .answer) b (k .before) (k .call)) ms m f j e) (List·Memᴰ·cases-cons i)
   where
@@ -139,7 +134,7 @@ model-has b (k ∷ ms) m f i e = go (λ j. model-has (enterModel (k .after .answ
     go rec (inr j) = rec j
     go rec (inl q) = (
       entered (modelTerms b (k .before)) (k .before) (k .call),
-      model-keeps _ ms _ (entered-at (k .after .answer) b (k .before) (k .call) f (ap (λ z. z .after .answer) (sym q) ∙ e)),
+      model-keeps _ ms _ (entered-at (effectOf (k .after .answer)) b _ f (ap (λ z. effectOf (z .after .answer)) (sym q) ∙ ap effectOf e)),
     )
 
 model-entry : (b : Model) (s other : Store) (f : Field) (ts : List Value) → True b s → List·Memᴰ (f, ts) b → fieldTerms s f ≡ modelTerms b other f
@@ -147,7 +142,8 @@ unfolding modelTerms All ifDec
 model-entry [] s other f ts t m = absurd (List·Memᴰ·not-nil m)
 model-entry (e ∷ b) s other f ts t m = go (sameField? f (e .0)) (λ k. model-entry b s other f ts (t .1) k) (List·Memᴰ·cases-cons m)
   where
-    go : (d : Dec ((f .node ≡ (e .0) .node) × (f .len ≡ (e .0) .len))) → (List·Memᴰ (f, ts) b → fieldTerms s f ≡ modelTerms b other f) → ((f, ts) ≡ e) ⊎ List·Memᴰ (f, ts) b
+    go : (d : Dec ((f .node ≡ (e .0) .node) × (f .len ≡ (e .0) .len))) → (List·Memᴰ (f, ts) b → fieldTerms s f ≡ modelTerms b other f)
+        → ((f, ts) ≡ e) ⊎ List·Memᴰ (f, ts) b
         → fieldTerms s f ≡ ifDec d (e .1) (modelTerms b other f)
     go (yes h) rec i = same-holds s f (e .0) h ∙ t .0 .1
     go (no h) rec (inr k) = rec k
@@ -208,13 +204,17 @@ from-end s calls m r i A f l a =
     let c = checked (m .before) allOfThem r (moment-args m r l) in
     let way = later-trans (f .toward) (f .onward) in
     let b = take-at? n (everyOne (m .before) r) i (ap (λ z. getElem? z i) (sym e) ∙ at-map setForm (candidatesOf m) i a) in
-    ap (λ z. getElem? (candidates (number (map canonE (elements z (items r))) (bindingNames z (bindings r))) (forms (fieldTerms (final s calls) (r .field)) ∷ []) (setForm (startTerms (final s calls) r))) i) (way .same-names)
-    ∙ ap₂ (λ x y. getElem? (candidates (numberedPattern (m .before) r) (forms x ∷ []) (setForm y)) i) (way .fields (r .field) (c .field) .1) (start-kept (m .before) (final s calls) r way c) ∙ b
+    ap (λ z. getElem? (candidates (number (map canonE (elements z (items r))) (bindingNames z (bindings r)))
+    (forms (fieldTerms (final s calls) (r .field)) ∷ []) (setForm (startTerms (final s calls) r))) i) (way .same-names)
+    ∙ ap₂ (λ x y. getElem? (candidates (numberedPattern (m .before) r) (forms x ∷ []) (setForm y)) i) (way .fields (r .field) (c .field) .1)
+    (start-kept (m .before) (final s calls) r way c) ∙ b
 
-stay-of : (s : Store) (calls : List Call) (m : Moment) (r : Request) → Fact s calls m → Listing r m → candidatesOf m ≡ map (map (shows (final s calls))) (listedRuns m)
+stay-of : (s : Store) (calls : List Call) (m : Moment) (r : Request) → Fact s calls m → Listing r m
+    → candidatesOf m ≡ map (map (shows (final s calls))) (listedRuns m)
 unfolding candidatesOf listedRuns
 stay-of s calls m r f l =
-    maps-same (All (Inside (m .after .store .termsUsed))) (map (shows (m .after .store))) (map (shows (final s calls))) (listedRuns m) (moment-lists s calls m r f l .inside)
+    maps-same (All (Inside (m .after .store .termsUsed))) (map (shows (m .after .store))) (map (shows (final s calls))) (listedRuns m)
+    (moment-lists s calls m r f l .inside)
     (λ A a. maps-same (Inside (m .after .store .termsUsed)) (shows (m .after .store)) (shows (final s calls)) A a (λ q h. sym (f .onward .runs q h .1)))
 
 -- ---- demand 3, whole ----

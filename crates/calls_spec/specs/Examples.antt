@@ -9,24 +9,30 @@ use Rattle.term_spec.specs.Words.{decode, encode, count, whole, records, write}
 use Rattle.term_spec.specs.Text.{isLetter, isDigit, isNameByte, every, identifierText, numberText, variableText, textRule, lower}
 use Rattle.term_spec.specs.Table.{table}
 use Rattle.term_spec.specs.Term.{termOf, runOf, runRule, runsRule, isScalar, depthK, deepest, bracketRule, symbolRule, termRuleK, termRule, termsRule}
-use Rattle.term_spec.specs.Value.{toList, fromList, bracketed, contents, valueK, valueOf, values, canon, canons, heads?, list?, same?, sames?, takesTable, unknownColumn, column, takesRow, row, takes, decided, takes?, isYes}
+use Rattle.term_spec.specs.Value.{toList, fromList, bracketed, contents, valueK, valueOf, values, canon, canons, heads?, list?, same?, sames?, takesTable}
+use Rattle.term_spec.specs.Value.{unknownColumn, column, takesRow, row, takes, decided, takes?, isYes}
 use Rattle.view_spec.specs.Node.{nodeOf, nilRule, consRule, concatRule, nodeRuleK, nodeRule, eachNode, nodesRule, fieldRule, meaningK, meaningOf}
-use Rattle.view_spec.specs.Build.{ifDec, fuseHead, fuseOnto, fuse, chainHead, chain, total, parts, fromRuns, unclampK, unclampOf, unclamp, secondK, planK, planOf, plan, grow, planMakes, joinBy, join, dropK, dropOf, dropPlan, dropMakes, dropNode, shrink, takeField, rest, range}
+use Rattle.view_spec.specs.Build.{ifDec, fuseHead, fuseOnto, fuse, chainHead, chain, total, parts, fromRuns, unclampK, unclampOf, unclamp, secondK, planK}
+use Rattle.view_spec.specs.Build.{planOf, plan, grow, planMakes, joinBy, join, dropK, dropOf, dropPlan, dropMakes, dropNode, shrink, takeField, rest, range}
 use Rattle.view_spec.specs.Read.{place, copyAt, settledAt, equalTerms, startsWith}
-use Rattle.match_spec.specs.Pattern.{itemOf, bindingOf, nameAt, name?, findHere, find, addIf, add, namesAfter, number, elementK, element, bindingName, itemRuleK, closeRule, nestRuleK, noneOpen, itemsRule, patternRule, bindingRule, bindingsRule}
+use Rattle.match_spec.specs.Pattern.{itemOf, bindingOf, nameAt, name?, findHere, find, addIf, add, namesAfter, number, elementK, element, bindingName}
+use Rattle.match_spec.specs.Pattern.{itemRuleK, closeRule, nestRuleK, noneOpen, itemsRule, patternRule, bindingRule, bindingsRule}
 use Rattle.match_spec.specs.Element.{onTop, wrap, push, put, Ones, canonE}
 use Rattle.match_spec.specs.Consistent.{note, openLengths, Lex, Before, Sorted}
 use Rattle.match_spec.specs.Listing.{guard, each, bindIf, bind, first, enter, leave, cuts, finish, candidates}
-use Rattle.match_spec.specs.Walk.{cellsOf, strip, ifFits, atHead, through, ifKnown, rigidFits, ends, upto, when, withHead, ifEmpty, takeFirst, leaveLevel, finishWalk, bindRun, topLevel, spread, walk, hits}
+use Rattle.match_spec.specs.Walk.{cellsOf, strip, ifFits, atHead, through, ifKnown, rigidFits, ends, upto, when, withHead, ifEmpty, takeFirst, leaveLevel}
+use Rattle.match_spec.specs.Walk.{finishWalk, bindRun, topLevel, spread, walk, hits}
 use Rattle.match_spec.specs.Answer.{afterOne, writeHit, absorbOne, absorb, slotsIn, numberOf}
 use Rattle.calls_spec.specs.Store.{terms, nodes, spelled, shows, fieldTerms, capacity, countsRule, storeTerms, storeNodes, addTerms, addNodes}
-use Rattle.calls_spec.specs.Step.{answerNumber, slotsLent, workLent, ask, evenRule, arguments, input, build, nodeRoom, room, matchEvents, matchProgress, matchAnswer, concat, fillSlots, afterMatch, afterFlatten, afterBuild, afterRead, accept, refuse, decide, step}
-use Rattle.calls_spec.specs.Demand3.{trace, final, sameField?, modelTerms, entered, enterModel, model, slotsFilled, slotNames, readSlots, listedRuns, candidatesOf}
+use Rattle.calls_spec.specs.Step.{answerNumber, effectOf, slotsOf, ask, evenRequest, askRequest, flatAnswer, flatWork, matchEvents, matchProgress}
+use Rattle.calls_spec.specs.Step.{matchAnswer, concat, fillSlots, given, fits, changed, deed, input, room, accept, refuse, decide, step}
+use Rattle.calls_spec.specs.Demand3.{trace, final, sameField?, modelTerms, enteredBy, entry, enterBy, model, readSlots, listedRuns, candidatesOf}
 use Rattle.term_spec.specs.Term.{Run}
 use Rattle.view_spec.specs.Node.{Field}
 use Rattle.match_spec.specs.Answer.{Wanted, allOfThem, headOnly}
 use Rattle.calls_spec.specs.Store.{Store}
-use Rattle.calls_spec.specs.Step.{Call, callFromRuns, callJoin, callTake, callRest, callRange, callStartsWith, callEqual, callFlatten, callMatch, Answer, refused, built, truth, inStore, inWork, listed, After}
+use Rattle.calls_spec.specs.Step.{Call, callFromRuns, callJoin, callTake, callRest, callRange, callStartsWith, callEqual, callFlatten, callMatch}
+use Rattle.calls_spec.specs.Step.{Answer, refused, built, truth, inStore, inWork, listed, After}
 
 -- The names `12Xx`; the terms a, b, X, x, (a b), 12 and room for two more; the nodes Nil, [a b], [X x], their Concat, and room for two more.
 abbrev pub exNames : List ℕ
@@ -83,7 +89,14 @@ vars k zero = []
 vars k (suc n) = k ∷ n ∷ 1 ∷ 0 ∷ vars k n
 
 abbrev pub lettered : Store
-lettered = record { names = (97 ∷ 98 ∷ 99 ∷ 100 ∷ 101 ∷ 102 ∷ 103 ∷ 104 ∷ 105 ∷ 106 ∷ 107 ∷ 108 ∷ 109 ∷ 110 ∷ 111 ∷ 112 ∷ 113 ∷ 114 ∷ 115 ∷ 116 ∷ 117 ∷ 118 ∷ []); termWords = []; termsUsed = 0; nodeWords = replicate 6 0; nodesUsed = 1 }
+lettered = record {
+  names = (97 ∷ 98 ∷ 99 ∷ 100 ∷ 101 ∷ 102 ∷ 103 ∷ 104 ∷ 105 ∷ 106 ∷ 107 ∷ 108 ∷ 109 ∷ 110 ∷ 111 ∷ 112 ∷ 113 ∷ 114 ∷ 115 ∷ 116 ∷ 117 ∷ 118
+      ∷ []);
+  termWords = [];
+  termsUsed = 0;
+  nodeWords = replicate 6 0;
+  nodesUsed = 1;
+}
 
 -- Each Concat doubles the one before, from two terms to 65,536, for 6.
 abbrev pub doubled : Store
@@ -114,7 +127,8 @@ doubled = record {
 abbrev pub worked : List Worked
 worked =
     -- from_runs: (0, 1) and (1, 1) fuse, (3, 0) is skipped; two Cons, the last run's first
-    moved (callFromRuns (0 ∷ 1 ∷ 1 ∷ 1 ∷ 3 ∷ 0 ∷ 5 ∷ 1 ∷ [])) (built (fd 5 3)) (with (exTerms ++ replicate 8 0) 6 (exNodes ++ (1 ∷ 5 ∷ 1 ∷ 0 ∷ 1 ∷ 1 ∷ []) ++ (1 ∷ 0 ∷ 2 ∷ 4 ∷ 1 ∷ 3 ∷ [])) 6) []
+    moved (callFromRuns (0 ∷ 1 ∷ 1 ∷ 1 ∷ 3 ∷ 0 ∷ 5 ∷ 1 ∷ [])) (built (fd 5 3))
+    (with (exTerms ++ replicate 8 0) 6 (exNodes ++ (1 ∷ 5 ∷ 1 ∷ 0 ∷ 1 ∷ 1 ∷ []) ++ (1 ∷ 0 ∷ 2 ∷ 4 ∷ 1 ∷ 3 ∷ [])) 6) []
     -- from_runs of nothing is the empty field
     ∷ same ex (callFromRuns (3 ∷ 0 ∷ [])) (built (fd 0 0)) [] []
     -- join: a Concat of the two
@@ -123,10 +137,12 @@ worked =
     ∷ same ex (callJoin (fd 3 0) (fd 3 1)) (built (fd 3 1)) [] []
     ∷ same ex (callTake (fd 3 4) 1) (built (fd 3 1)) [] []
     -- rest by 1: a shortened Cons, and a Concat over it
-    ∷ moved (callRest (fd 3 4) 1) (built (fd 5 3)) (with (exTerms ++ replicate 8 0) 6 (exNodes ++ (1 ∷ 1 ∷ 1 ∷ 0 ∷ 1 ∷ 1 ∷ []) ++ (2 ∷ 4 ∷ 1 ∷ 2 ∷ 2 ∷ 3 ∷ [])) 6) []
+    ∷ moved (callRest (fd 3 4) 1) (built (fd 5 3)) (with (exTerms ++ replicate 8 0) 6
+    (exNodes ++ (1 ∷ 1 ∷ 1 ∷ 0 ∷ 1 ∷ 1 ∷ []) ++ (2 ∷ 4 ∷ 1 ∷ 2 ∷ 2 ∷ 3 ∷ [])) 6) []
     -- rest by the whole node is node 0
     ∷ same ex (callRest (fd 1 2) 2) (built (fd 0 0)) [] []
-    ∷ moved (callRange (fd 3 4) 1 2) (built (fd 5 2)) (with (exTerms ++ replicate 8 0) 6 (exNodes ++ (1 ∷ 1 ∷ 1 ∷ 0 ∷ 1 ∷ 1 ∷ []) ++ (2 ∷ 4 ∷ 1 ∷ 2 ∷ 2 ∷ 3 ∷ [])) 6) []
+    ∷ moved (callRange (fd 3 4) 1 2) (built (fd 5 2)) (with (exTerms ++ replicate 8 0) 6
+    (exNodes ++ (1 ∷ 1 ∷ 1 ∷ 0 ∷ 1 ∷ 1 ∷ []) ++ (2 ∷ 4 ∷ 1 ∷ 2 ∷ 2 ∷ 3 ∷ [])) 6) []
     ∷ same ex (callStartsWith (fd 3 4) (fd 1 2)) (truth true) [] []
     ∷ same ex (callStartsWith (fd 1 2) (fd 3 4)) (truth false) [] []
     -- a clamped Concat holds what its left holds; a b is not X x
@@ -143,7 +159,8 @@ worked =
     -- e.1 bound to b before: one candidate, and its entry shows the binding's own run
     ∷ same ex (match allOfThem (fd 1 2) twoExprs (7 ∷ 0 ∷ 1 ∷ 0 ∷ 1 ∷ []) (replicate 4 9)) (listed 0 1 2) ((0 ∷ 1 ∷ 1 ∷ 1 ∷ [])) []
     -- a rope is settled: the copy goes after the used terms
-    ∷ moved (match allOfThem (fd 3 2) (7 ∷ 0 ∷ 1 ∷ 0 ∷ []) [] (9 ∷ 9 ∷ [])) (listed 0 1 1) (with (exTerms ++ (0 ∷ 97 ∷ 0 ∷ 0 ∷ []) ++ (0 ∷ 98 ∷ 0 ∷ 0 ∷ [])) 8 (exNodes ++ replicate 12 0) 4) (6 ∷ 2 ∷ [])
+    ∷ moved (match allOfThem (fd 3 2) (7 ∷ 0 ∷ 1 ∷ 0 ∷ []) [] (9 ∷ 9 ∷ [])) (listed 0 1 1)
+    (with (exTerms ++ (0 ∷ 97 ∷ 0 ∷ 0 ∷ []) ++ (0 ∷ 98 ∷ 0 ∷ 0 ∷ [])) 8 (exNodes ++ replicate 12 0) 4) (6 ∷ 2 ∷ [])
     -- 1: a run list that is not whole; a term count past its slice; over 64 runs
     ∷ same ex (callFromRuns (0 ∷ 1 ∷ 2 ∷ [])) (refused 1) [] []
     ∷ same (with exTerms 7 exNodes 4) (callTake (fd 1 2) 1) (refused 1) [] []
@@ -169,7 +186,8 @@ worked =
     -- 9: 65 names
     ∷ same lettered (match allOfThem (fd 0 0) (vars 5 22 ++ vars 6 22 ++ vars 7 21) [] []) (refused 9) [] []
     -- 10: keeps the settled copy
-    ∷ moved (match allOfThem (fd 3 2) oneSymbol [] (9 ∷ 9 ∷ [])) (refused 10) (with (exTerms ++ (0 ∷ 97 ∷ 0 ∷ 0 ∷ []) ++ (0 ∷ 98 ∷ 0 ∷ 0 ∷ [])) 8 (exNodes ++ replicate 12 0) 4) (9 ∷ 9 ∷ [])
+    ∷ moved (match allOfThem (fd 3 2) oneSymbol [] (9 ∷ 9 ∷ [])) (refused 10)
+    (with (exTerms ++ (0 ∷ 97 ∷ 0 ∷ 0 ∷ []) ++ (0 ∷ 98 ∷ 0 ∷ 0 ∷ [])) 8 (exNodes ++ replicate 12 0) 4) (9 ∷ 9 ∷ [])
     -- 11: a Call reached
     ∷ same ex (match allOfThem (fd 1 2) aCall [] (9 ∷ 9 ∷ [])) (refused 11) (9 ∷ 9 ∷ []) []
     -- 12: no room for a node; none is written
@@ -187,8 +205,25 @@ worked =
     ∷ same ex (match allOfThem (fd 1 2) (3 ∷ 1 ∷ 0 ∷ 0 ∷ []) (4 ∷ 0 ∷ 1 ∷ 0 ∷ 0 ∷ []) []) (refused 7) [] []
     ∷ same ex (match allOfThem (fd 3 3) aCall [] []) (refused 13) [] []
     ∷ same (with (0 ∷ 55296 ∷ 0 ∷ 0 ∷ []) 2 exNodes 1) (callTake (fd 0 0) 0) (refused 1) [] []
+    -- .. a call's own slice that is not whole (1) before 2; 2 before 3; 5 before 6; in a listing 4 before 5, and 8 before 9
+    ∷ same (with (0 ∷ 55296 ∷ 0 ∷ 0 ∷ []) 1 exNodes 1) (callFromRuns (0 ∷ [])) (refused 1) [] []
+    ∷ same (with (0 ∷ 55296 ∷ 0 ∷ 0 ∷ []) 1 exNodes 0) (callTake (fd 0 0) 0) (refused 2) [] []
+    ∷ same ex (callFromRuns (0 ∷ 65536 ∷ 0 ∷ 1 ∷ [])) (refused 5) [] []
+    ∷ same ex (match allOfThem (fd 4 0) oneSymbol (7 ∷ 0 ∷ 1 ∷ 6 ∷ 1 ∷ []) []) (refused 4) [] []
+    ∷ same lettered (match allOfThem (fd 0 0) (vars 5 22 ++ vars 6 22 ++ vars 7 21) (4 ∷ 0 ∷ 1 ∷ 0 ∷ 0 ∷ []) []) (refused 8) [] []
     ∷ []
 
 pub worked-calls : map (λ e. step (e .store) (e .call)) worked ≡ map (λ e. e .after) worked
-unfolding decode encode count whole records write isLetter isDigit isNameByte every identifierText numberText variableText textRule lower table termOf runOf runRule runsRule isScalar depthK deepest bracketRule symbolRule termRuleK termRule termsRule toList fromList bracketed contents valueK valueOf values canon canons heads? list? same? sames? takesTable unknownColumn column takesRow row takes decided takes? nodeOf nilRule consRule concatRule nodeRuleK nodeRule eachNode nodesRule fieldRule meaningK meaningOf ifDec fuseHead fuseOnto fuse chainHead chain total parts fromRuns unclampK unclampOf unclamp secondK planK planOf plan grow planMakes joinBy join dropK dropOf dropPlan dropMakes dropNode shrink takeField rest range place copyAt settledAt isYes equalTerms startsWith itemOf bindingOf nameAt name? findHere find addIf add namesAfter number elementK element bindingName itemRuleK closeRule nestRuleK noneOpen itemsRule patternRule bindingRule bindingsRule onTop wrap push put Ones canonE note openLengths Lex Before Sorted guard each bindIf bind first enter leave cuts finish candidates cellsOf strip ifFits atHead through ifKnown rigidFits ends upto when withHead ifEmpty takeFirst leaveLevel finishWalk bindRun topLevel spread walk hits afterOne writeHit absorbOne absorb slotsIn numberOf terms nodes spelled shows fieldTerms capacity countsRule storeTerms storeNodes addTerms addNodes answerNumber slotsLent workLent ask evenRule arguments input build nodeRoom room matchEvents matchProgress matchAnswer concat fillSlots afterMatch afterFlatten afterBuild afterRead accept refuse decide step trace final sameField? modelTerms entered enterModel model slotsFilled slotNames readSlots listedRuns candidatesOf ℕ-discrete decLe decLt vars
+unfolding decode encode count whole records write isLetter isDigit isNameByte every identifierText numberText variableText textRule lower table termOf runOf
+    runRule runsRule isScalar depthK deepest bracketRule symbolRule termRuleK termRule termsRule toList fromList bracketed contents valueK valueOf values
+    canon canons heads? list? same? sames? takesTable unknownColumn column takesRow row takes decided takes? nodeOf nilRule consRule concatRule nodeRuleK
+    nodeRule eachNode nodesRule fieldRule meaningK meaningOf ifDec fuseHead fuseOnto fuse chainHead chain total parts fromRuns unclampK unclampOf unclamp
+    secondK planK planOf plan grow planMakes joinBy join dropK dropOf dropPlan dropMakes dropNode shrink takeField rest range place copyAt settledAt isYes
+    equalTerms startsWith itemOf bindingOf nameAt name? findHere find addIf add namesAfter number elementK element bindingName itemRuleK closeRule nestRuleK
+    noneOpen itemsRule patternRule bindingRule bindingsRule onTop wrap push put Ones canonE note openLengths Lex Before Sorted guard each bindIf bind first
+    enter leave cuts finish candidates cellsOf strip ifFits atHead through ifKnown rigidFits ends upto when withHead ifEmpty takeFirst leaveLevel finishWalk
+    bindRun topLevel spread walk hits afterOne writeHit absorbOne absorb slotsIn numberOf terms nodes spelled shows fieldTerms capacity countsRule
+    storeTerms storeNodes addTerms addNodes answerNumber effectOf ask evenRequest askRequest flatAnswer flatWork matchEvents matchProgress matchAnswer
+    concat fillSlots given fits changed deed input room accept refuse decide step trace final sameField? modelTerms enteredBy entry enterBy model slotsOf
+    readSlots listedRuns candidatesOf ℕ-discrete decLe decLt vars
 worked-calls = refl

@@ -26,14 +26,17 @@ use Rattle.match_spec.specs.SoundLaws.{Numbered}
 use Rattle.match_spec.specs.NameLaws.{numbered}
 use Rattle.match_spec.specs.ConsistentLaws.{listed}
 use Rattle.match_spec.specs.RunLaws.{Inside, runs-read, walk-inside}
-use Rattle.match_spec.specs.AnswerLaws.{Reached, Quiet, written-all, written-none, no-room, head-only, fitting, due, answered, number-due, number-head, called-number, Calm, calm-or-call, calls-same, calm-same, quiet-walk, no-candidate}
+use Rattle.match_spec.specs.AnswerLaws.{Reached, Quiet, written-all, written-none, no-room, head-only, fitting, due, answered, number-due, number-head}
+use Rattle.match_spec.specs.AnswerLaws.{called-number, Calm, calm-or-call, calls-same, calm-same, quiet-walk, no-candidate}
 use Rattle.match_spec.specs.KeepLaws.{HasCall}
 use Rattle.match_spec.specs.MatchLaws.{listing-shows}
 use Rattle.calls_spec.specs.Store.{Store, terms, nodes, spelled, shows, fieldTerms, capacity, addTerms}
-use Rattle.calls_spec.specs.Step.{Request, callMatch, After, bindings, patternOf, startNames, allNames, numberedPattern, startRuns, slotCount, arguments, input, fieldCopy, room, matchEvents, matchProgress, afterMatch, accept, decide, refuse, step}
-use Rattle.calls_spec.specs.Demand3.{slotsFilled, slotNames, readSlots}
+use Rattle.calls_spec.specs.Step.{Request, callMatch, slotsOf, slotsFilled, slotNames, After, bindings, patternOf, startNames, allNames}
+use Rattle.calls_spec.specs.Step.{numberedPattern, startRuns, slotCount, askRequest, deed, arguments, ask, changed, input, fieldCopy, room}
+use Rattle.calls_spec.specs.Step.{matchEvents, matchProgress, accept, decide, refuse, step}
+use Rattle.calls_spec.specs.Demand3.{readSlots}
 use Rattle.calls_spec.specs.StoreLaws.{Good, terms-length, added-terms}
-use Rattle.calls_spec.specs.StepLaws.{ask-none, settled}
+use Rattle.calls_spec.specs.StepLaws.{ask-none, room-terms, settled}
 use Rattle.calls_spec.specs.SlotLaws.{Sized, refusal-empty, answered-slots}
 use Rattle.view_spec.specs.SettleLaws.{Settles}
 use Rattle.term_spec.specs.TermLaws.{Valid, valid-terms, values-part}
@@ -50,7 +53,7 @@ runs-inside used [] h = tt
 runs-inside used (r ∷ rs) h = let (a, b) = both-of (leb (r .start + r .len) used) (runsRule used rs) h in (leb→le _ _ a, runs-inside used rs b)
 
 pub checked : (s : Store) (q : Wanted) (r : Request) → arguments s (callMatch q r) ≡ none → Checked s r
-unfolding arguments
+unfolding deed askRequest
 checked s q r e =
     let (a, e1) = ask-none (fieldRule (nodes s) (r .field)) 4 _ e in
     let (b, e2) = ask-none (runsRule (s .termsUsed) (startRuns r)) 5 _ e1 in
@@ -142,45 +145,51 @@ module _ (s : Store) (r : Request) (g : Good s) (c : Checked s r) where
   settles-field : Settles (s .names) (terms s) (nodes s) (r .field)
   settles-field = settled s (r .field) g (c .field)
 
-  valid : Valid (terms s ++ fieldCopy s (r .field))
-  valid = valid-terms (s .names) (terms s ++ fieldCopy s (r .field)) (settles-field .good)
+  valid : Valid grown
+  valid = valid-terms (s .names) grown (settles-field .good)
 
-  run-cells : cellsOf (s .names) (terms s ++ fieldCopy s (r .field)) (settledRun (terms s) (nodes s) (r .field)) ≡ forms (fieldTerms s (r .field))
+  run-cells : cellsOf (s .names) grown (settledRun (terms s) (nodes s) (r .field)) ≡ forms (fieldTerms s (r .field))
   unfolding cellsOf fieldTerms spelled
   run-cells = ap forms (settles-field .shows)
 
-  start-cells : map (cellsOf (s .names) (terms s ++ fieldCopy s (r .field))) (startRuns r) ≡ setForm (startTerms s r)
+  start-cells : map (cellsOf (s .names) grown) (startRuns r) ≡ setForm (startTerms s r)
   unfolding cellsOf shows spelled
   start-cells =
-      maps-same (Inside (s .termsUsed)) _ (λ q. forms (shows s q)) (startRuns r) (c .inside) (λ q h. ap forms (values-part (s .names) (terms s) (fieldCopy s (r .field)) q (rw (terms-length s) h)))
+      maps-same (Inside (s .termsUsed)) _ (λ q. forms (shows s q)) (startRuns r) (c .inside)
+      (λ q h. ap forms (values-part (s .names) (terms s) (fieldCopy s (r .field)) q (rw (terms-length s) h)))
       ∙ sym (map-map forms (shows s) (startRuns r))
 
-  hits-show : map (map (cellsOf (s .names) (terms s ++ fieldCopy s (r .field)))) (hits (matchEvents s r)) ≡ everyOne s r
+  hits-show : map (map (cellsOf (s .names) grown)) (hits (matchEvents s r)) ≡ everyOne s r
   unfolding matchEvents
-  hits-show = listing-shows (s .names) (terms s ++ fieldCopy s (r .field)) (numberedPattern s r) (settledRun (terms s) (nodes s) (r .field)) (startRuns r) valid (counted s r)
+  hits-show = listing-shows (s .names) grown (numberedPattern s r) (settledRun (terms s) (nodes s) (r .field))
+      (startRuns r) valid (counted s r)
       ∙ ap₂ (λ x y. candidates (numberedPattern s r) (x ∷ []) y) run-cells start-cells
 
-  form-cells : (e : List Run) → setForm (map (part (values (s .names) (terms s ++ fieldCopy s (r .field)))) e) ≡ map (cellsOf (s .names) (terms s ++ fieldCopy s (r .field))) e
+  form-cells : (e : List Run) → setForm (map (part (values (s .names) grown)) e)
+      ≡ map (cellsOf (s .names) grown) e
   unfolding cellsOf
-  form-cells e = map-map forms (part (values (s .names) (terms s ++ fieldCopy s (r .field)))) e
+  form-cells e = map-map forms (part (values (s .names) grown)) e
 
   -- every entry of the list is a consistent extension's canonical form
   pub every-sound : (A : Env) → List·Memᴰ A (everyOne s r)
       → (B : Env) × Consistent (patternOf s r) (startNames s r) (startTerms s r) (fieldTerms s (r .field)) B × (setForm B ≡ A)
   every-sound A m =
-      let (e, i, q) = mem-map (map (cellsOf (s .names) (terms s ++ fieldCopy s (r .field)))) (hits (matchEvents s r)) {y = A} (rw hits-show m) in
+      let (e, i, q) = mem-map (map (cellsOf (s .names) grown)) (hits (matchEvents s r)) {y = A} (rw hits-show m) in
       let z = form-cells e ∙ q in
-      (map (part (values (s .names) (terms s ++ fieldCopy s (r .field)))) e, consistent-listed s r _ .0 (rw z m), z)
+      (map (part (values (s .names) grown)) e, consistent-listed s r _ .0 (rw z m), z)
 
   pub hits-sized : Sized (length (allNames s r)) (hits (matchEvents s r))
-  hits-sized = all-of _ (hits (matchEvents s r)) (λ e m. one e (rw (form-cells e, ← hits-show) (mem-mapped (map (cellsOf (s .names) (terms s ++ fieldCopy s (r .field)))) (hits (matchEvents s r)) e m)))
+  hits-sized = all-of _ (hits (matchEvents s r)) (λ e m. one e (rw (form-cells e, ← hits-show)
+      (mem-mapped (map (cellsOf (s .names) grown)) (hits (matchEvents s r)) e m)))
     where
-      one : (e : List Run) → List·Memᴰ (setForm (map (part (values (s .names) (terms s ++ fieldCopy s (r .field)))) e)) (everyOne s r) → length e ≡ length (allNames s r)
-      one e m = sym (length-map e (part (values (s .names) (terms s ++ fieldCopy s (r .field))))) ∙ (consistent-listed s r (map (part (values (s .names) (terms s ++ fieldCopy s (r .field)))) e) .0 m) .binds
+      one : (e : List Run) → List·Memᴰ (setForm (map (part (values (s .names) grown)) e)) (everyOne s r)
+          → length e ≡ length (allNames s r)
+      one e m = sym (length-map e (part (values (s .names) grown)))
+          ∙ (consistent-listed s r (map (part (values (s .names) grown)) e) .0 m) .binds
 
-  hits-inside : All (All (Inside (length (terms s ++ fieldCopy s (r .field))))) (hits (matchEvents s r))
+  hits-inside : All (All (Inside (length grown))) (hits (matchEvents s r))
   unfolding matchEvents runRule
-  hits-inside = walk-inside (s .names) (terms s ++ fieldCopy s (r .field)) valid (numberedPattern s r) _ (startRuns r)
+  hits-inside = walk-inside (s .names) grown valid (numberedPattern s r) _ (startRuns r)
       (all-one _ _ (leb→le _ _ (settles-field .inside)))
       (all-weaken _ _ (startRuns r) (λ q h. omega (arith, terms-length s, length-append (terms s) (fieldCopy s (r .field)))) (c .inside))
 
@@ -188,7 +197,8 @@ module _ (s : Store) (r : Request) (g : Good s) (c : Checked s r) where
 
   no-hits : HasCall (patternOf s r) → hits (matchEvents s r) ≡ []
   unfolding matchEvents
-  no-hits h = no-candidate _ (runs-read (s .names) (terms s ++ fieldCopy s (r .field)) valid) (numberedPattern s r) _ (startRuns r) (counted s r) (calls-same (patternOf s r) (startNames s r) .1 h)
+  no-hits h = no-candidate _ (runs-read (s .names) grown valid) (numberedPattern s r) _ (startRuns r) (counted s r)
+      (calls-same (patternOf s r) (startNames s r) .1 h)
 
   quiet-events : Calm (patternOf s r) → Quiet (matchEvents s r)
   unfolding matchEvents
@@ -199,9 +209,11 @@ module _ (s : Store) (r : Request) (g : Good s) (c : Checked s r) where
   unfolding matchProgress
   written-is q = go (calm-or-call (patternOf s r))
     where
-      go : Calm (patternOf s r) ⊎ HasCall (patternOf s r) → (absorb q (slotCount s r) (matchEvents s r) started) .written ≡ take (wanted q (slotCount s r)) (hits (matchEvents s r))
+      go : Calm (patternOf s r) ⊎ HasCall (patternOf s r) → (absorb q (slotCount s r) (matchEvents s r) started) .written
+          ≡ take (wanted q (slotCount s r)) (hits (matchEvents s r))
       go (inl h) = written-wanted q (slotCount s r) (matchEvents s r) (quiet-events h)
-      go (inr h) = written-none q (slotCount s r) (matchEvents s r) (no-hits h) ∙ sym (ap (take (wanted q (slotCount s r))) (no-hits h) ∙ take-nil (wanted q (slotCount s r)))
+      go (inr h) = written-none q (slotCount s r) (matchEvents s r) (no-hits h)
+          ∙ sym (ap (take (wanted q (slotCount s r))) (no-hits h) ∙ take-nil (wanted q (slotCount s r)))
 
   called-empty : (q : Wanted) → (matchProgress s q r) .status ≡ called → (matchProgress s q r) .written ≡ []
   unfolding matchProgress numberOf
@@ -213,38 +225,42 @@ module _ (s : Store) (r : Request) (g : Good s) (c : Checked s r) where
       go (inr h) = written-none q (slotCount s r) (matchEvents s r) (no-hits h)
 
   -- the number of an accepted call on a pattern without Call or Block: 10, 0 or 15, by the number of consistent extensions
-  pub match-number : (q : Wanted) → Calm (patternOf s r) → numberOf ((matchProgress s q r) .status) ((matchProgress s q r) .written) ≡ due (length (asked q (everyOne s r))) (slotCount s r)
+  pub match-number : (q : Wanted) → Calm (patternOf s r) → numberOf ((matchProgress s q r) .status) ((matchProgress s q r) .written)
+      ≡ due (length (asked q (everyOne s r))) (slotCount s r)
   unfolding matchProgress
   match-number q h = number-asked q (slotCount s r) (matchEvents s r) (quiet-events h)
-      ∙ ap (λ n. due n (slotCount s r)) (sym (length-map (asked q (hits (matchEvents s r))) (map (cellsOf (s .names) (terms s ++ fieldCopy s (r .field)))))
-      ∙ ap length (asked-map q (map (cellsOf (s .names) (terms s ++ fieldCopy s (r .field)))) (hits (matchEvents s r)) ∙ ap (asked q) hits-show))
+      ∙ ap (λ n. due n (slotCount s r)) (sym (length-map (asked q (hits (matchEvents s r))) (map (cellsOf (s .names) grown)))
+      ∙ ap length (asked-map q (map (cellsOf (s .names) grown)) (hits (matchEvents s r)) ∙ ap (asked q) hits-show))
 
   -- with a Call or Block there is no candidate, and the number is 10 or 11, 11 exactly if the walk reaches one
   pub call-number : (q : Wanted) → HasCall (patternOf s r) → ((matchProgress s q r) .written ≡ [])
-      × (((numberOf ((matchProgress s q r) .status) ((matchProgress s q r) .written) ≡ 10) ⊎ (numberOf ((matchProgress s q r) .status) ((matchProgress s q r) .written) ≡ 11))
+      × (((numberOf ((matchProgress s q r) .status) ((matchProgress s q r) .written) ≡ 10) ⊎
+      (numberOf ((matchProgress s q r) .status) ((matchProgress s q r) .written) ≡ 11))
       × ((numberOf ((matchProgress s q r) .status) ((matchProgress s q r) .written) ≡ 11) ↔ Reached (matchEvents s r)))
   unfolding matchProgress
   call-number q h = (written-none q (slotCount s r) (matchEvents s r) (no-hits h), called-number q (slotCount s r) (matchEvents s r) (no-hits h))
 
   -- ---- read back from the slots that the call leaves ----
 
-  slots-read : (q : Wanted) → readSlots (slotsFilled ((afterMatch s q r (matchProgress s q r)) .answer)) (slotNames ((afterMatch s q r (matchProgress s q r)) .answer))
-      ((afterMatch s q r (matchProgress s q r)) .slots) ≡ (matchProgress s q r) .written
-  unfolding afterMatch
+  slots-read : (q : Wanted) → readSlots (slotsFilled ((accept s (callMatch q r)) .answer)) (slotNames ((accept s (callMatch q r)) .answer))
+      ((accept s (callMatch q r)) .slots) ≡ (matchProgress s q r) .written
+  unfolding accept deed
   slots-read q = answered-slots (r .slots) _ (length (allNames s r)) ((matchProgress s q r) .written)
       (subst (Sized (length (allNames s r))) (sym (written-is q)) (all-take _ (wanted q (slotCount s r)) (hits (matchEvents s r)) hits-sized))
       (λ t. refusal-empty ((matchProgress s q r) .status) ((matchProgress s q r) .written) (called-empty q) t)
 
   module _ (fits : s .termsUsed + length (fieldCopy s (r .field)) ≤ capacity termLayout (s .termWords)) where
-    end-cells : (e : List Run) → setForm (map (shows (addTerms s (fieldCopy s (r .field)))) e) ≡ map (cellsOf (s .names) (terms s ++ fieldCopy s (r .field))) e
+    end-cells : (e : List Run) → setForm (map (shows (addTerms s (fieldCopy s (r .field)))) e) ≡ map (cellsOf (s .names) grown) e
     unfolding shows spelled cellsOf addTerms
     end-cells e = map-map forms (shows (addTerms s (fieldCopy s (r .field)))) e
         ∙ ap (λ ts. map (λ q. forms (part (values (s .names) ts) q)) e) (added-terms s (fieldCopy s (r .field)) fits)
 
-    written-forms : (q : Wanted) → map setForm (map (map (shows (addTerms s (fieldCopy s (r .field))))) ((matchProgress s q r) .written)) ≡ take (wanted q (slotCount s r)) (everyOne s r)
-    written-forms q = map-both setForm (map (shows (addTerms s (fieldCopy s (r .field))))) (map (cellsOf (s .names) (terms s ++ fieldCopy s (r .field)))) end-cells ((matchProgress s q r) .written)
-        ∙ ap (map (map (cellsOf (s .names) (terms s ++ fieldCopy s (r .field))))) (written-is q)
-        ∙ map-take (map (cellsOf (s .names) (terms s ++ fieldCopy s (r .field)))) (wanted q (slotCount s r)) (hits (matchEvents s r))
+    written-forms : (q : Wanted) → map setForm (map (map (shows (addTerms s (fieldCopy s (r .field))))) ((matchProgress s q r) .written))
+        ≡ take (wanted q (slotCount s r)) (everyOne s r)
+    written-forms q = map-both setForm (map (shows (addTerms s (fieldCopy s (r .field)))))
+        (map (cellsOf (s .names) grown)) end-cells ((matchProgress s q r) .written)
+        ∙ ap (map (map (cellsOf (s .names) grown))) (written-is q)
+        ∙ map-take (map (cellsOf (s .names) grown)) (wanted q (slotCount s r)) (hits (matchEvents s r))
         ∙ ap (take (wanted q (slotCount s r))) hits-show
 
     written-inside : (q : Wanted) → All (All (Inside ((addTerms s (fieldCopy s (r .field))) .termsUsed))) ((matchProgress s q r) .written)
@@ -264,21 +280,27 @@ pub record Lists (s : Store) (q : Wanted) (r : Request) (a : After) : Type 0 whe
   pub inside : All (All (Inside (a .store .termsUsed))) (runsLeft a)
   pub filled : room s (callMatch q r) ≡ none → map setForm (map (map (shows (a .store))) (runsLeft a)) ≡ take (wanted q (slotCount s r)) (everyOne s r)
 
-accepted-lists : (s : Store) (q : Wanted) (r : Request) → Good s → Checked s r → s .termsUsed + length (fieldCopy s (r .field)) ≤ capacity termLayout (s .termWords)
-    → Lists s q r (afterMatch s q r (matchProgress s q r))
-unfolding afterMatch
+accepted-lists : (s : Store) (q : Wanted) (r : Request) → Good s → Checked s r
+    → s .termsUsed + length (fieldCopy s (r .field)) ≤ capacity termLayout (s .termWords)
+    → Lists s q r (accept s (callMatch q r))
+unfolding accept deed changed
 accepted-lists s q r g c fits =
     let w = slots-read s r g c q in
     let f = ap (λ l. map setForm (map (map (shows (addTerms s (fieldCopy s (r .field))))) l)) w ∙ written-forms s r g c fits q in
-    record { some-first = (wanted q (slotCount s r), f); inside = subst (All (All (Inside ((addTerms s (fieldCopy s (r .field))) .termsUsed)))) (sym w) (written-inside s r g c fits q); filled = λ h. f }
+    record {
+      some-first = (wanted q (slotCount s r), f);
+      inside = subst (All (All (Inside ((addTerms s (fieldCopy s (r .field))) .termsUsed)))) (sym w)
+          (written-inside s r g c fits q);
+      filled = λ h. f;
+    }
 
 pub lists : (s : Store) (q : Wanted) (r : Request) → Good s → arguments s (callMatch q r) ≡ none → input s (callMatch q r) ≡ none
     → Lists s q r (step s (callMatch q r))
-unfolding step decide refuse slotsFilled slotNames readSlots All room accept
+unfolding step decide refuse slotsOf readSlots All room deed ask
 lists s q r g e i = go (input s (callMatch q r)) (room s (callMatch q r)) i refl
   where
     go : (o p : Option ℕ) → o ≡ none → room s (callMatch q r) ≡ p → Lists s q r (decide o p s (callMatch q r))
     go (some n) p z k = absurd (none-some (sym z))
     go none (some n) z k = record { some-first = (0, refl); inside = tt; filled = λ h. absurd (none-some (sym h ∙ k)) }
     go none none z k = accepted-lists s q r g (checked s q r e)
-        (leb→le _ _ (ask-none (leb (s .termsUsed + length (fieldCopy s (r .field))) (capacity termLayout (s .termWords))) 13 none k .0))
+        (room-terms s (fieldCopy s (r .field)) none k .0)

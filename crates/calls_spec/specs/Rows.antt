@@ -9,25 +9,30 @@ use Rattle.term_spec.specs.Words.{decode, encode, count, whole, records, write}
 use Rattle.term_spec.specs.Text.{isLetter, isDigit, isNameByte, every, identifierText, numberText, variableText, textRule, lower}
 use Rattle.term_spec.specs.Table.{table}
 use Rattle.term_spec.specs.Term.{termOf, runOf, runRule, runsRule, isScalar, depthK, deepest, bracketRule, symbolRule, termRuleK, termRule, termsRule}
-use Rattle.term_spec.specs.Value.{toList, fromList, bracketed, contents, valueK, valueOf, values, canon, canons, heads?, list?, same?, sames?, takesTable, unknownColumn, column, takesRow, row, takes, decided, takes?, isYes}
+use Rattle.term_spec.specs.Value.{toList, fromList, bracketed, contents, valueK, valueOf, values, canon, canons, heads?, list?, same?, sames?, takesTable}
+use Rattle.term_spec.specs.Value.{unknownColumn, column, takesRow, row, takes, decided, takes?, isYes}
 use Rattle.view_spec.specs.Node.{nodeOf, nilRule, consRule, concatRule, nodeRuleK, nodeRule, eachNode, nodesRule, fieldRule, meaningK, meaningOf}
-use Rattle.view_spec.specs.Build.{ifDec, fuseHead, fuseOnto, fuse, chainHead, chain, total, parts, fromRuns, unclampK, unclampOf, unclamp, secondK, planK, planOf, plan, grow, planMakes, joinBy, join, dropK, dropOf, dropPlan, dropMakes, dropNode, shrink, takeField, rest, range}
+use Rattle.view_spec.specs.Build.{ifDec, fuseHead, fuseOnto, fuse, chainHead, chain, total, parts, fromRuns, unclampK, unclampOf, unclamp, secondK, planK}
+use Rattle.view_spec.specs.Build.{planOf, plan, grow, planMakes, joinBy, join, dropK, dropOf, dropPlan, dropMakes, dropNode, shrink, takeField, rest, range}
 use Rattle.view_spec.specs.Read.{place, copyAt, settledAt, equalTerms, startsWith}
-use Rattle.match_spec.specs.Pattern.{itemOf, bindingOf, nameAt, name?, findHere, find, addIf, add, namesAfter, number, elementK, element, bindingName, itemRuleK, closeRule, nestRuleK, noneOpen, itemsRule, patternRule, bindingRule, bindingsRule}
+use Rattle.match_spec.specs.Pattern.{itemOf, bindingOf, nameAt, name?, findHere, find, addIf, add, namesAfter, number, elementK, element, bindingName}
+use Rattle.match_spec.specs.Pattern.{itemRuleK, closeRule, nestRuleK, noneOpen, itemsRule, patternRule, bindingRule, bindingsRule}
 use Rattle.match_spec.specs.Element.{onTop, wrap, push, put, Ones, canonE}
 use Rattle.match_spec.specs.Consistent.{note, openLengths, Lex, Before, Sorted}
 use Rattle.match_spec.specs.Listing.{guard, each, bindIf, bind, first, enter, leave, cuts, finish, candidates}
-use Rattle.match_spec.specs.Walk.{cellsOf, strip, ifFits, atHead, through, ifKnown, rigidFits, ends, upto, when, withHead, ifEmpty, takeFirst, leaveLevel, finishWalk, bindRun, topLevel, spread, walk, hits}
+use Rattle.match_spec.specs.Walk.{cellsOf, strip, ifFits, atHead, through, ifKnown, rigidFits, ends, upto, when, withHead, ifEmpty, takeFirst, leaveLevel}
+use Rattle.match_spec.specs.Walk.{finishWalk, bindRun, topLevel, spread, walk, hits}
 use Rattle.match_spec.specs.Answer.{afterOne, writeHit, absorbOne, absorb, slotsIn, numberOf}
 use Rattle.calls_spec.specs.Store.{terms, nodes, spelled, shows, fieldTerms, capacity, countsRule, storeTerms, storeNodes, addTerms, addNodes}
-use Rattle.calls_spec.specs.Step.{answerNumber, slotsLent, workLent, ask, evenRule, arguments, input, build, nodeRoom, room, matchEvents, matchProgress, matchAnswer, concat, fillSlots, afterMatch, afterFlatten, afterBuild, afterRead, accept, refuse, decide, step}
-use Rattle.calls_spec.specs.Demand3.{trace, final, sameField?, modelTerms, entered, enterModel, model, slotsFilled, slotNames, readSlots, listedRuns, candidatesOf}
+use Rattle.calls_spec.specs.Step.{answerNumber, effectOf, slotsOf, ask, evenRequest, askRequest, flatAnswer, flatWork, matchEvents, matchProgress}
+use Rattle.calls_spec.specs.Step.{matchAnswer, concat, fillSlots, given, fits, changed, deed, input, room, accept, refuse, decide, step}
+use Rattle.calls_spec.specs.Demand3.{trace, final, sameField?, modelTerms, enteredBy, entry, enterBy, model, readSlots, listedRuns, candidatesOf}
 use Rattle.term_spec.specs.Value.{char, unknown}
 use Rattle.view_spec.specs.Node.{Field, emptyField}
 use Rattle.match_spec.specs.Element.{Env}
 use Rattle.match_spec.specs.Answer.{allOfThem}
 use Rattle.calls_spec.specs.Store.{Store}
-use Rattle.calls_spec.specs.Step.{callFromRuns, callMatch, Answer, refused, built, truth, inStore, inWork, listed, After}
+use Rattle.calls_spec.specs.Step.{callFromRuns, callMatch, Effect, quiet, making, After}
 use Rattle.calls_spec.specs.Demand3.{Moment}
 
 -- The names `12XxA007`, and a store of terms for every row.
@@ -112,13 +117,9 @@ trials =
     ∷ []
 
 -- The field that a call answered.
-unfoldable pub fieldOf : Answer → Field
-fieldOf (refused n) = emptyField
-fieldOf (built f) = f
-fieldOf (truth b) = emptyField
-fieldOf (inStore r) = emptyField
-fieldOf (inWork n) = emptyField
-fieldOf (listed n c k) = emptyField
+unfoldable pub fieldOf : Effect → Field
+fieldOf quiet = emptyField
+fieldOf (making f) = f
 
 abbrev pub Outcome : Type 0
 Outcome = ℕ × List Env
@@ -126,7 +127,7 @@ Outcome = ℕ × List Env
 -- The listing's number and candidates, read from sixteen slots' worth of words, on the stores that from_runs left.
 unfoldable pub listOn : After → List ℕ → Outcome
 listOn made p =
-    let c = callMatch allOfThem (record { field = fieldOf (made .answer); pattern = p; bindings = []; slots = replicate 32 0 }) in
+    let c = callMatch allOfThem (record { field = fieldOf (effectOf (made .answer)); pattern = p; bindings = []; slots = replicate 32 0 }) in
     let m : Moment = record { before = made .store; call = c; after = step (made .store) c } in
     (answerNumber (m .after .answer), candidatesOf m)
 
@@ -137,5 +138,16 @@ abbrev pub expected : Trial → Outcome
 expected r = (r .number, r .candidates)
 
 pub starred-rows : map run trials ≡ map expected trials
-unfolding decode encode count whole records write isLetter isDigit isNameByte every identifierText numberText variableText textRule lower table termOf runOf runRule runsRule isScalar depthK deepest bracketRule symbolRule termRuleK termRule termsRule toList fromList bracketed contents valueK valueOf values canon canons heads? list? same? sames? takesTable unknownColumn column takesRow row takes decided takes? nodeOf nilRule consRule concatRule nodeRuleK nodeRule eachNode nodesRule fieldRule meaningK meaningOf ifDec fuseHead fuseOnto fuse chainHead chain total parts fromRuns unclampK unclampOf unclamp secondK planK planOf plan grow planMakes joinBy join dropK dropOf dropPlan dropMakes dropNode shrink takeField rest range place copyAt settledAt isYes equalTerms startsWith itemOf bindingOf nameAt name? findHere find addIf add namesAfter number elementK element bindingName itemRuleK closeRule nestRuleK noneOpen itemsRule patternRule bindingRule bindingsRule onTop wrap push put Ones canonE note openLengths Lex Before Sorted guard each bindIf bind first enter leave cuts finish candidates cellsOf strip ifFits atHead through ifKnown rigidFits ends upto when withHead ifEmpty takeFirst leaveLevel finishWalk bindRun topLevel spread walk hits afterOne writeHit absorbOne absorb slotsIn numberOf terms nodes spelled shows fieldTerms capacity countsRule storeTerms storeNodes addTerms addNodes answerNumber slotsLent workLent ask evenRule arguments input build nodeRoom room matchEvents matchProgress matchAnswer concat fillSlots afterMatch afterFlatten afterBuild afterRead accept refuse decide step trace final sameField? modelTerms entered enterModel model slotsFilled slotNames readSlots listedRuns candidatesOf ℕ-discrete decLe decLt fieldOf listOn run
+unfolding decode encode count whole records write isLetter isDigit isNameByte every identifierText numberText variableText textRule lower table termOf runOf
+    runRule runsRule isScalar depthK deepest bracketRule symbolRule termRuleK termRule termsRule toList fromList bracketed contents valueK valueOf values
+    canon canons heads? list? same? sames? takesTable unknownColumn column takesRow row takes decided takes? nodeOf nilRule consRule concatRule nodeRuleK
+    nodeRule eachNode nodesRule fieldRule meaningK meaningOf ifDec fuseHead fuseOnto fuse chainHead chain total parts fromRuns unclampK unclampOf unclamp
+    secondK planK planOf plan grow planMakes joinBy join dropK dropOf dropPlan dropMakes dropNode shrink takeField rest range place copyAt settledAt isYes
+    equalTerms startsWith itemOf bindingOf nameAt name? findHere find addIf add namesAfter number elementK element bindingName itemRuleK closeRule nestRuleK
+    noneOpen itemsRule patternRule bindingRule bindingsRule onTop wrap push put Ones canonE note openLengths Lex Before Sorted guard each bindIf bind first
+    enter leave cuts finish candidates cellsOf strip ifFits atHead through ifKnown rigidFits ends upto when withHead ifEmpty takeFirst leaveLevel finishWalk
+    bindRun topLevel spread walk hits afterOne writeHit absorbOne absorb slotsIn numberOf terms nodes spelled shows fieldTerms capacity countsRule
+    storeTerms storeNodes addTerms addNodes answerNumber effectOf ask evenRequest askRequest flatAnswer flatWork matchEvents matchProgress matchAnswer
+    concat fillSlots given fits changed deed input room accept refuse decide step trace final sameField? modelTerms enteredBy entry enterBy model slotsOf
+    readSlots listedRuns candidatesOf ℕ-discrete decLe decLt fieldOf listOn run
 starred-rows = refl

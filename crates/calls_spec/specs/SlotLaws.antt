@@ -11,8 +11,8 @@ use Rattle.term_spec.specs.Words.{encode, decode, write}
 use Rattle.term_spec.specs.WordsLaws.{run-lays, encode-length, decode-encode, encode-append}
 use Rattle.term_spec.specs.Term.{Run, runLayout}
 use Rattle.match_spec.specs.Answer.{Status, going, done, full, called, numberOf}
-use Rattle.calls_spec.specs.Step.{Answer, refused, listed, concat, fillSlots, matchAnswer}
-use Rattle.calls_spec.specs.Demand3.{slotsFilled, slotNames, readSlots}
+use Rattle.calls_spec.specs.Step.{Answer, refused, listed, slotsOf, slotsFilled, slotNames, concat, fillSlots, matchAnswer}
+use Rattle.calls_spec.specs.Demand3.{readSlots}
 
 -- Every candidate has a run for each of k names.
 abbrev pub Sized : ℕ → List (List Run) → Type 0
@@ -26,7 +26,8 @@ read-encoded k (c ∷ cs) x a =
     = ap (_++ x) (encode-append runLayout run-lays c (concat cs)) ∙ append-assoc (encode runLayout c) (encode runLayout (concat cs)) x in
     let l : length (encode runLayout c) ≡ k * 2 = encode-length runLayout run-lays c ∙ ap (_* 2) (a .0) in
     ap₂ _∷_ (ap₂ (decode runLayout) (sym (a .0)) e ∙ decode-encode runLayout run-lays c (encode runLayout (concat cs) ++ x))
-    (ap (readSlots (length cs) k) (ap (drop (k * 2)) e ∙ drop-at (encode runLayout c) (encode runLayout (concat cs) ++ x) (k * 2) l) ∙ read-encoded k cs x (a .1))
+    (ap (readSlots (length cs) k) (ap (drop (k * 2)) e ∙ drop-at (encode runLayout c) (encode runLayout (concat cs) ++ x) (k * 2) l)
+    ∙ read-encoded k cs x (a .1))
 
 pub read-filled : (w : List ℕ) (k : ℕ) (cs : List (List Run)) → Sized k cs → readSlots (length cs) k (fillSlots w cs) ≡ cs
 unfolding fillSlots write
@@ -44,7 +45,7 @@ refusal-empty called l h t = h refl
 -- the slots as the answer counts them hold the candidates written
 pub answered-slots : (w : List ℕ) (n k : ℕ) (cs : List (List Run)) → Sized k cs → (T (eqb n 10 || eqb n 11) → cs ≡ [])
     → readSlots (slotsFilled (matchAnswer n (length cs) k)) (slotNames (matchAnswer n (length cs) k)) (fillSlots w cs) ≡ cs
-unfolding matchAnswer slotsFilled slotNames readSlots
+unfolding matchAnswer slotsOf readSlots
 answered-slots w n k cs a h = go (eqb n 10 || eqb n 11) h
   where
     answer : Bool → Answer

@@ -8,11 +8,14 @@ use lib.ListN.{length, drop}
 use Prim.Native.Nat.{ℕ, _+_}
 use Rattle.term_spec.specs.Words.{count, whole, records, write}
 use Rattle.term_spec.specs.Term.{Term, termLayout, Run, runLayout, runsRule, limit}
-use Rattle.view_spec.specs.Node.{Node, nodeLayout, Field, emptyField, fieldRule}
+use Rattle.term_spec.specs.Refusal.{uneven, badTerm, badNode, badField, pastEnd, tooLong, badPattern, badBinding, tooManyNames, noMatch}
+use Rattle.term_spec.specs.Refusal.{callsAreNotPatterns, nodesFull, termsFull, workShort}
+use Rattle.view_spec.specs.Node.{Node, nodeLayout, Field, fieldRule}
 use Rattle.view_spec.specs.Build.{Built, fromRuns, join, takeField, rest, range, total}
 use Rattle.view_spec.specs.Read.{Place, stored, scattered, place, copy, settledRun, equalTerms, startsWith}
 use Rattle.match_spec.specs.Element.{Element, canonE}
-use Rattle.match_spec.specs.Pattern.{Item, itemLayout, Binding, bindingLayout, boundRun, elements, bindingNames, namesAfter, number, patternRule, bindingsRule}
+use Rattle.match_spec.specs.Pattern.{Item, itemLayout, Binding, bindingLayout, boundRun, elements, bindingNames, namesAfter, number, patternRule}
+use Rattle.match_spec.specs.Pattern.{bindingsRule, patternLimit, nameLimit}
 use Rattle.match_spec.specs.Walk.{Event, runs, walk}
 use Rattle.match_spec.specs.Answer.{Wanted, Progress, started, absorb, slotsIn, numberOf}
 use Rattle.calls_spec.specs.Store.{Store, terms, nodes, fieldTerms, capacity, countsRule, storeTerms, storeNodes, addTerms, addNodes}
@@ -48,6 +51,15 @@ pub data Answer : Type 0 where
   inWork : ℕ → Answer
   listed : ℕ → ℕ → ℕ → Answer
 
+-- What a call leaves: its answer, the stores with their counts, and the slots and the work buffer if it was lent them.
+pub record After : Type 0 where
+  pub answer : Answer
+  pub store : Store
+  pub slots : List ℕ
+  pub work : List ℕ
+
+-- ---- answers, taken apart here only ----
+
 -- 01's number of an answer, 0 if the call is accepted.
 unfoldable pub answerNumber : Answer → ℕ
 answerNumber (refused n) = n
@@ -57,36 +69,51 @@ answerNumber (inStore r) = 0
 answerNumber (inWork n) = 0
 answerNumber (listed n c k) = n
 
--- What a call leaves: its answer, the stores with their counts, and the slots and the work buffer if it was lent them.
-pub record After : Type 0 where
-  pub answer : Answer
-  pub store : Store
-  pub slots : List ℕ
-  pub work : List ℕ
+-- What an answer says of fields: nothing, or that this one is new.
+pub data Effect : Type 0 where
+  quiet : Effect
+  making : Field → Effect
 
--- The words that a call lends as slots.
-unfoldable pub slotsLent : Call → List ℕ
-slotsLent (callFromRuns w) = []
-slotsLent (callJoin f g) = []
-slotsLent (callTake f n) = []
-slotsLent (callRest f k) = []
-slotsLent (callRange f k n) = []
-slotsLent (callStartsWith f g) = []
-slotsLent (callEqual f g) = []
-slotsLent (callFlatten f w) = []
-slotsLent (callMatch q m) = m .slots
+-- What each answer says of fields.
+unfoldable pub effectOf : Answer → Effect
+effectOf (refused n) = quiet
+effectOf (built f) = making f
+effectOf (truth b) = quiet
+effectOf (inStore r) = quiet
+effectOf (inWork n) = quiet
+effectOf (listed n c k) = quiet
 
--- The words that a call lends as work buffer.
-unfoldable pub workLent : Call → List ℕ
-workLent (callFromRuns w) = []
-workLent (callJoin f g) = []
-workLent (callTake f n) = []
-workLent (callRest f k) = []
-workLent (callRange f k n) = []
-workLent (callStartsWith f g) = []
-workLent (callEqual f g) = []
-workLent (callFlatten f w) = w
-workLent (callMatch q m) = []
+-- What an answer shows: no terms, a run of the term store, or so many records of the work buffer, from its start.
+pub data Shown : Type 0 where
+  nothing : Shown
+  ofStore : Run → Shown
+  ofWork : ℕ → Shown
+
+-- What each answer shows.
+unfoldable pub shownBy : Answer → Shown
+shownBy (refused n) = nothing
+shownBy (built f) = nothing
+shownBy (truth b) = nothing
+shownBy (inStore r) = ofStore r
+shownBy (inWork n) = ofWork n
+shownBy (listed n c k) = nothing
+
+-- How many slots an answer says are filled, and how many names it says each has.
+unfoldable pub slotsOf : Answer → ℕ × ℕ
+slotsOf (refused n) = (0, 0)
+slotsOf (built f) = (0, 0)
+slotsOf (truth b) = (0, 0)
+slotsOf (inStore r) = (0, 0)
+slotsOf (inWork n) = (0, 0)
+slotsOf (listed n c k) = (c, k)
+
+-- The slots filled.
+abbrev pub slotsFilled : Answer → ℕ
+slotsFilled a = (slotsOf a) .0
+
+-- The names of each.
+abbrev pub slotNames : Answer → ℕ
+slotNames a = (slotsOf a) .1
 
 -- ---- what a request asks, read with the names of the store ----
 
@@ -122,85 +149,52 @@ startRuns m = map boundRun (bindings m)
 abbrev pub slotCount : Store → Request → ℕ
 slotCount s m = slotsIn (length (m .slots)) (length (allNames s m))
 
--- ---- refusals because of the input: the first of 1 to 9 that applies ----
+-- ---- checks ----
 
 -- A check: its number if the test fails, else what comes next.
 unfoldable pub ask : Bool → ℕ → Option ℕ → Option ℕ
 ask true n next = next
 ask false n next = some n
 
--- 1 Uneven, of what else the call is lent: whole records, at most 64 runs, at most 256 pattern records. Slots need not be whole.
-unfoldable pub evenRule : Call → Bool
-evenRule (callFromRuns w) = whole runLayout w && leb (count runLayout w) 64
-evenRule (callJoin f g) = true
-evenRule (callTake f n) = true
-evenRule (callRest f k) = true
-evenRule (callRange f k n) = true
-evenRule (callStartsWith f g) = true
-evenRule (callEqual f g) = true
-evenRule (callFlatten f w) = whole termLayout w
-evenRule (callMatch q m) = whole itemLayout (m .pattern) && leb (count itemLayout (m .pattern)) 256 && whole bindingLayout (m .bindings)
+-- "a run list has over 64 runs" (1).
+abbrev pub runListLimit : ℕ
+runListLimit = 64
 
--- 4 BadField, 5 PastEnd, 6 TooLong, 7 BadPattern, 8 BadBinding, 9 TooManyNames.
-unfoldable pub arguments : Store → Call → Option ℕ
-arguments s (callFromRuns w) = ask (runsRule (s .termsUsed) (records runLayout w)) 5 (ask (leb (total (records runLayout w)) limit) 6 none)
-arguments s (callJoin f g) = ask (fieldRule (nodes s) f && fieldRule (nodes s) g) 4 (ask (leb (f .len + g .len) limit) 6 none)
-arguments s (callTake f n) = ask (fieldRule (nodes s) f) 4 (ask (leb n (f .len)) 5 none)
-arguments s (callRest f k) = ask (fieldRule (nodes s) f) 4 (ask (leb k (f .len)) 5 none)
-arguments s (callRange f k n) = ask (fieldRule (nodes s) f) 4 (ask (leb (k + n) (f .len)) 5 none)
-arguments s (callStartsWith f g) = ask (fieldRule (nodes s) f && fieldRule (nodes s) g) 4 none
-arguments s (callEqual f g) = ask (fieldRule (nodes s) f && fieldRule (nodes s) g) 4 none
-arguments s (callFlatten f w) = ask (fieldRule (nodes s) f) 4 none
-arguments s (callMatch q m) =
-    ask (fieldRule (nodes s) (m .field)) 4
-    (ask (runsRule (s .termsUsed) (startRuns m)) 5
-    (ask (patternRule (s .names) (items m)) 7
-    (ask (bindingsRule (s .names) (bindings m) []) 8
-    (ask (leb (length (allNames s m)) 64) 9 none))))
+-- 1 of pattern and bindings: whole, and at most 256 pattern records.
+unfoldable pub evenRequest : Request → Bool
+evenRequest m = whole itemLayout (m .pattern) && leb (count itemLayout (m .pattern)) patternLimit && whole bindingLayout (m .bindings)
 
--- "Each call makes those it has arguments for, over all used records."
-unfoldable pub input : Store → Call → Option ℕ
-input s c = ask (countsRule s && evenRule c) 1 (ask (storeTerms s) 2 (ask (storeNodes s) 3 (arguments s c)))
+-- 5, 7, 8 and 9 of a pattern with its bindings; then what comes next.
+abbrev pub named : Store → Request → Option ℕ → Option ℕ
+named s m next =
+    ask (runsRule (s .termsUsed) (startRuns m)) pastEnd
+    (ask (patternRule (s .names) (items m)) badPattern
+    (ask (bindingsRule (s .names) (bindings m) []) badBinding
+    (ask (leb (length (allNames s m)) nameLimit) tooManyNames next)))
 
--- ---- refusals because of the state: 12 NodesFull, 13 TermsFull, 14 WorkShort ----
+-- 4, 5, 7, 8 and 9 of a request; then what comes next.
+unfoldable pub askRequest : Store → Request → Option ℕ → Option ℕ
+askRequest s m next = ask (fieldRule (nodes s) (m .field)) badField (named s m next)
 
--- The nodes after a call that builds, and its field; no other call makes nodes.
-unfoldable pub build : Store → Call → Built
-build s (callFromRuns w) = fromRuns (records runLayout w) (nodes s)
-build s (callJoin f g) = join f g (nodes s)
-build s (callTake f n) = record { nodes = nodes s; field = takeField f n }
-build s (callRest f k) = rest f k (nodes s)
-build s (callRange f k n) = range f k n (nodes s)
-build s (callStartsWith f g) = record { nodes = nodes s; field = emptyField }
-build s (callEqual f g) = record { nodes = nodes s; field = emptyField }
-build s (callFlatten f w) = record { nodes = nodes s; field = emptyField }
-build s (callMatch q m) = record { nodes = nodes s; field = emptyField }
+-- ---- what calls make and show ----
 
--- The nodes that a call makes.
-abbrev pub newNodes : Store → Call → List Node
-newNodes s c = drop (s .nodesUsed) ((build s c) .nodes)
+-- The nodes that are new in what is built.
+abbrev pub newNodes : Store → Built → List Node
+newNodes s k = drop (s .nodesUsed) (k .nodes)
 
 -- The records of a field that its settling or flattening copies.
 abbrev pub fieldCopy : Store → Field → List Term
 fieldCopy s f = copy (terms s) (nodes s) f
 
--- "12 NodesFull: the nodes which the rules below make for this call exceed the unused ones."
-unfoldable pub nodeRoom : Store → Call → Option ℕ
-nodeRoom s c = ask (leb (s .nodesUsed + length (newNodes s c)) (capacity nodeLayout (s .nodeWords))) 12 none
+-- "`flatten` shows a part of the term store or a part of the work buffer", by where the field stands.
+unfoldable pub flatAnswer : Field → Place → Answer
+flatAnswer f (stored r) = inStore r
+flatAnswer f scattered = inWork (f .len)
 
--- The first of 12 to 14 that applies. "13 TermsFull: a settled copy exceeds the unused terms. 14 WorkShort: a copy exceeds the work buffer."
-unfoldable pub room : Store → Call → Option ℕ
-room s (callFromRuns w) = nodeRoom s (callFromRuns w)
-room s (callJoin f g) = nodeRoom s (callJoin f g)
-room s (callTake f n) = none
-room s (callRest f k) = nodeRoom s (callRest f k)
-room s (callRange f k n) = nodeRoom s (callRange f k n)
-room s (callStartsWith f g) = none
-room s (callEqual f g) = none
-room s (callFlatten f w) = ask (leb (length (fieldCopy s f)) (count termLayout w)) 14 none
-room s (callMatch q m) = ask (leb (s .termsUsed + length (fieldCopy s (m .field))) (capacity termLayout (s .termWords))) 13 none
-
--- ---- accepted calls ----
+-- The work buffer after it.
+unfoldable pub flatWork : Store → Field → List ℕ → Place → List ℕ
+flatWork s f w (stored r) = w
+flatWork s f w scattered = write termLayout w 0 (fieldCopy s f)
 
 -- The events of the walk over the settled field, in the terms with the settled copy.
 unfoldable pub matchEvents : Store → Request → List (Event (List Run))
@@ -213,7 +207,7 @@ matchProgress s q m = absorb q (slotCount s m) (matchEvents s m) started
 
 -- "A refusal returns its number alone": 10 and 11. 0 and 15 come with the count and the names.
 unfoldable pub matchAnswer : ℕ → ℕ → ℕ → Answer
-matchAnswer n c k = elim (eqb n 10 || eqb n 11) [ true ↦ refused n | false ↦ listed n c k ]
+matchAnswer n c k = elim (eqb n noMatch || eqb n callsAreNotPatterns) [ true ↦ refused n | false ↦ listed n c k ]
 
 -- Lists one after another.
 unfoldable pub concat : {A : Type 0} → List (List A) → List A
@@ -224,39 +218,148 @@ concat (x ∷ l) = x ++ concat l
 unfoldable pub fillSlots : List ℕ → List (List Run) → List ℕ
 fillSlots w candidates = write runLayout w 0 (concat candidates)
 
--- What a listing or first match leaves; "10, 11 and 15 keep the settled copy".
-unfoldable pub afterMatch : Store → Wanted → Request → Progress (List Run) → After
-afterMatch s q m o = record {
+-- ---- what a call is lent ----
+
+-- What a call is lent beside the stores, and 1 of that: whole records, and counts within their limits. Slots need not be whole.
+pub record Given : Type 0 where
+  pub slots : List ℕ
+  pub work : List ℕ
+  pub even : Bool
+
+-- Neither slots nor a work buffer; slots; a work buffer.
+abbrev bare : Bool → Given
+bare even = record { slots = []; work = []; even = even }
+
+abbrev withSlots : List ℕ → Bool → Given
+withSlots w even = record { slots = w; work = []; even = even }
+
+abbrev withWork : List ℕ → Bool → Given
+withWork w even = record { slots = []; work = w; even = even }
+
+-- What each call is lent.
+unfoldable pub given : Call → Given
+given (callFromRuns w) = bare (whole runLayout w && leb (count runLayout w) runListLimit)
+given (callJoin f g) = bare true
+given (callTake f n) = bare true
+given (callRest f k) = bare true
+given (callRange f k n) = bare true
+given (callStartsWith f g) = bare true
+given (callEqual f g) = bare true
+given (callFlatten f w) = withWork w (whole termLayout w)
+given (callMatch q m) = withSlots (m .slots) (evenRequest m)
+
+-- Its parts, by name.
+abbrev pub slotsLent : Call → List ℕ
+slotsLent c = (given c) .slots
+
+abbrev pub workLent : Call → List ℕ
+workLent c = (given c) .work
+
+abbrev pub evenRule : Call → Bool
+evenRule c = (given c) .even
+
+-- ---- what a call does ----
+
+-- What a call makes of the stores.
+pub data Change : Type 0 where
+  keeps : Change
+  addsNodes : List Node → Change
+  addsTerms : List Term → Change
+
+-- "12 NodesFull: the nodes which the rules below make for this call exceed the unused ones." "13 TermsFull: a settled copy exceeds the
+-- unused terms." Then what comes next.
+unfoldable pub fits : Store → Change → Option ℕ → Option ℕ
+fits s keeps next = next
+fits s (addsNodes ns) next = ask (leb (s .nodesUsed + length ns) (capacity nodeLayout (s .nodeWords))) nodesFull next
+fits s (addsTerms ts) next = ask (leb (s .termsUsed + length ts) (capacity termLayout (s .termWords))) termsFull next
+
+-- The stores after it.
+unfoldable pub changed : Store → Change → Store
+changed s keeps = s
+changed s (addsNodes ns) = addNodes s ns
+changed s (addsTerms ts) = addTerms s ts
+
+-- A call on given stores: the first of 4 to 9 that applies; whether the work buffer is long enough (14); what it makes of the stores; and,
+-- where nothing refuses it, its answer and the slots and the work buffer after it.
+pub record Deed : Type 0 where
+  pub asks : Option ℕ
+  pub enough : Bool
+  pub change : Change
+  pub answer : Answer
+  pub slots : List ℕ
+  pub work : List ℕ
+
+-- A call that makes nodes and answers the field over them.
+abbrev building : Store → Option ℕ → Built → Deed
+building s asks b = record { asks = asks; enough = true; change = addsNodes (newNodes s b); answer = built (b .field); slots = []; work = [] }
+
+-- A call that answers only.
+abbrev answering : Option ℕ → Answer → Deed
+answering asks a = record { asks = asks; enough = true; change = keeps; answer = a; slots = []; work = [] }
+
+-- A listing or first match; "10, 11 and 15 keep the settled copy".
+abbrev listing : Store → Wanted → Request → Option ℕ → Deed
+listing s q m asks = let o = matchProgress s q m in record {
+  asks = asks;
+  enough = true;
+  change = addsTerms (fieldCopy s (m .field));
   answer = matchAnswer (numberOf (o .status) (o .written)) (length (o .written)) (length (allNames s m));
-  store = addTerms s (fieldCopy s (m .field));
   slots = fillSlots (m .slots) (o .written);
   work = [];
 }
 
--- "`flatten` shows a part of the term store or a part of the work buffer"
-unfoldable pub afterFlatten : Store → Field → List ℕ → Place → After
-afterFlatten s f w (stored r) = record { answer = inStore r; store = s; slots = []; work = w }
-afterFlatten s f w scattered = record { answer = inWork (f .len); store = s; slots = []; work = write termLayout w 0 (fieldCopy s f) }
+-- What each call does. Of the checks "each call makes those it has arguments for".
+unfoldable pub deed : Store → Call → Deed
+deed s (callFromRuns w) =
+    building s
+    (ask (runsRule (s .termsUsed) (records runLayout w)) pastEnd (ask (leb (total (records runLayout w)) limit) tooLong none))
+    (fromRuns (records runLayout w) (nodes s))
+deed s (callJoin f g) =
+    building s
+    (ask (fieldRule (nodes s) f && fieldRule (nodes s) g) badField (ask (leb (f .len + g .len) limit) tooLong none))
+    (join f g (nodes s))
+deed s (callTake f n) =
+    answering (ask (fieldRule (nodes s) f) badField (ask (leb n (f .len)) pastEnd none)) (built (takeField f n))
+deed s (callRest f k) =
+    building s (ask (fieldRule (nodes s) f) badField (ask (leb k (f .len)) pastEnd none)) (rest f k (nodes s))
+deed s (callRange f k n) =
+    building s (ask (fieldRule (nodes s) f) badField (ask (leb (k + n) (f .len)) pastEnd none)) (range f k n (nodes s))
+deed s (callStartsWith f g) =
+    answering (ask (fieldRule (nodes s) f && fieldRule (nodes s) g) badField none) (truth (startsWith (fieldTerms s f) (fieldTerms s g)))
+deed s (callEqual f g) =
+    answering (ask (fieldRule (nodes s) f && fieldRule (nodes s) g) badField none) (truth (equalTerms (fieldTerms s f) (fieldTerms s g)))
+deed s (callFlatten f w) = record {
+  asks = ask (fieldRule (nodes s) f) badField none;
+  enough = leb (length (fieldCopy s f)) (count termLayout w);
+  change = keeps;
+  answer = flatAnswer f (place (nodes s) f);
+  slots = [];
+  work = flatWork s f w (place (nodes s) f);
+}
+deed s (callMatch q m) = listing s q m (askRequest s m none)
 
--- What a call that builds leaves.
-unfoldable pub afterBuild : Store → Call → After
-afterBuild s c = record { answer = built ((build s c) .field); store = addNodes s (newNodes s c); slots = []; work = [] }
+-- The first of 4 BadField, 5 PastEnd, 6 TooLong, 7 BadPattern, 8 BadBinding and 9 TooManyNames that applies.
+abbrev pub arguments : Store → Call → Option ℕ
+arguments s c = (deed s c) .asks
 
--- What a call that only reads leaves.
-unfoldable pub afterRead : Store → Bool → After
-afterRead s b = record { answer = truth b; store = s; slots = []; work = [] }
+-- ---- one call ----
+
+-- The first of 1 to 9 that applies, "over all used records".
+unfoldable pub input : Store → Call → Option ℕ
+input s c = ask (countsRule s && evenRule c) uneven (ask (storeTerms s) badTerm (ask (storeNodes s) badNode (arguments s c)))
+
+-- The first of 12 to 14 that applies. "14 WorkShort: a copy exceeds the work buffer."
+unfoldable pub room : Store → Call → Option ℕ
+room s c = fits s ((deed s c) .change) (ask ((deed s c) .enough) workShort none)
 
 -- What a call leaves that none of 1 to 9 and 12 to 14 refuses.
 unfoldable pub accept : Store → Call → After
-accept s (callFromRuns w) = afterBuild s (callFromRuns w)
-accept s (callJoin f g) = afterBuild s (callJoin f g)
-accept s (callTake f n) = record { answer = built (takeField f n); store = s; slots = []; work = [] }
-accept s (callRest f k) = afterBuild s (callRest f k)
-accept s (callRange f k n) = afterBuild s (callRange f k n)
-accept s (callStartsWith f g) = afterRead s (startsWith (fieldTerms s f) (fieldTerms s g))
-accept s (callEqual f g) = afterRead s (equalTerms (fieldTerms s f) (fieldTerms s g))
-accept s (callFlatten f w) = afterFlatten s f w (place (nodes s) f)
-accept s (callMatch q m) = afterMatch s q m (matchProgress s q m)
+accept s c = record {
+  answer = (deed s c) .answer;
+  store = changed s ((deed s c) .change);
+  slots = (deed s c) .slots;
+  work = (deed s c) .work;
+}
 
 -- "A refusal returns its number alone and changes no lent word"; 10, 11 and 15 are accept's.
 unfoldable pub refuse : Store → Call → ℕ → After
@@ -277,9 +380,9 @@ step s c = decide (input s c) (room s c) s c
 -- The words of pattern and bindings pass 1, 7, 8 and 9.
 unfoldable pub namesRule : List ℕ → List ℕ → List ℕ → Bool
 namesRule names p b =
-    (whole itemLayout p && leb (count itemLayout p) 256 && whole bindingLayout b)
+    (whole itemLayout p && leb (count itemLayout p) patternLimit && whole bindingLayout b)
     && patternRule names (records itemLayout p) && bindingsRule names (records bindingLayout b) []
-    && leb (length (namesAfter (elements names (records itemLayout p)) (bindingNames names (records bindingLayout b)))) 64
+    && leb (length (namesAfter (elements names (records itemLayout p)) (bindingNames names (records bindingLayout b)))) nameLimit
 
 -- The names of start and pattern together: a slot has twice as many words. 0 where they are refused, for then no slot is written.
 unfoldable pub nameCount : List ℕ → List ℕ → List ℕ → ℕ

@@ -104,7 +104,8 @@ pub added-nodes : (s : Store) (new : List Node) → s .nodesUsed + length new �
 unfolding nodes addNodes
 added-nodes s new h = written-records nodeLayout node-lays (s .nodeWords) (s .nodesUsed) new h
 
-pub added-terms-counts : (s : Store) (new : List Term) → T (countsRule s) → s .termsUsed + length new ≤ capacity termLayout (s .termWords) → T (countsRule (addTerms s new))
+pub added-terms-counts : (s : Store) (new : List Term) → T (countsRule s) → s .termsUsed + length new ≤ capacity termLayout (s .termWords)
+    → T (countsRule (addTerms s new))
 unfolding addTerms
 added-terms-counts s new g h =
     let c = counts-of s g in
@@ -116,7 +117,8 @@ added-terms-counts s new g h =
       nodes-fit = c .nodes-fit;
     })
 
-pub added-nodes-counts : (s : Store) (new : List Node) → T (countsRule s) → s .nodesUsed + length new ≤ capacity nodeLayout (s .nodeWords) → T (countsRule (addNodes s new))
+pub added-nodes-counts : (s : Store) (new : List Node) → T (countsRule s) → s .nodesUsed + length new ≤ capacity nodeLayout (s .nodeWords)
+    → T (countsRule (addNodes s new))
 unfolding addNodes
 added-nodes-counts s new g h =
     let c = counts-of s g in

@@ -4,10 +4,11 @@ use mathlib.Core.List.{List}
 use mathlib.Core.Bool.{Bool, true, false}
 use lib.ListN.{length, getD, set, replicate}
 use lib.Seq.{getD-set-same, getD-set-other, set-out}
-use Prim.Native.Nat.{ℕ, suc, zero, _+_, _-_, _<_, _≤_, max, min}
+use Prim.Native.Nat.{ℕ, _+_, _-_, _<_, _≤_, max, min}
 use native.Mathlib.Decide.{ℕ-discrete, decLt}
 use native.Mathlib.Nat.{sub-zero}
 use native.Mathlib.Omega.{arith}
+use Rattle.term_spec.specs.ListLaws.{zeros-at}
 use Rattle.term_spec.specs.Value.{Value, isYes}
 use Rattle.term_spec.specs.ValueLaws.{is-yes}
 use Rattle.value.specs.Equal.{equalAt}
@@ -52,14 +53,9 @@ every-set P l y v here all x = go (ℕ-discrete x y) (decLt y (length l))
     go (yes q) (no n) = rw (set-out l y v (omega arith)) (all x)
     go (no q) d = rw (getD-set-other l y x v 0 q) (all x)
 
-zeros : (n x : ℕ) → _≡_ {A = ℕ} (getD (replicate n 0) x 0) 0
-zeros zero x = refl
-zeros (suc n) zero = refl
-zeros (suc n) (suc x) = zeros n x
-
 -- At first nothing is known.
 pub remembers-none : (form : ℕ → Value) (n : ℕ) → Remembers form (replicate n 0)
-remembers-none form n = record { down = λ x. rw (zeros n x) (omega arith); same = λ x. rw (zeros n x, sub-zero) refl }
+remembers-none form n = record { down = λ x. rw (zeros-at n x) (omega arith); same = λ x. rw (zeros-at n x, sub-zero) refl }
 
 module _ {form : ℕ → Value} {known : List ℕ} (kept : Remembers form known) where
   remembers-set : (y v : ℕ) → v ≤ y → form y ≡ form (y - v) → Remembers form (set known y v)

@@ -3,3 +3,4 @@ pub mod CompareLaws
 pub mod Known
 pub mod KnownLaws
 pub mod RunLaws
+pub mod TwoLaws

@@ -6,11 +6,12 @@ use lib.ListN.{length, take, drop}
 use lib.Seq.{take-add, drop-drop, take-at, drop-at}
 use Prim.Native.Nat.{ℕ, _+_, _-_, _≤_}
 use native.Mathlib.Omega.{arith}
-use Rattle.term_spec.specs.Term.{part}
+use Rattle.term_spec.specs.Term.{Run, part}
 use Rattle.term_spec.specs.Value.{Value, canon, forms, isYes}
 use Rattle.term_spec.specs.ValueLaws.{is-yes, is-no}
 use Rattle.value.specs.Equal.{valuesIn, equalRuns}
 use Rattle.value.specs.EqualLaws.{run-size}
+use Rattle.equality.specs.Known.{RunsIn, sameRuns}
 
 -- A decision that comes to two others.
 both : {P Q R : Type 0} (d : Dec P) (e : Dec Q) (f : Dec R) → (P → Q × R) → (Q → R → P) → isYes d ≡ isYes e && isYes f
@@ -46,6 +47,15 @@ module _ (names w : List ℕ) (used : ℕ) where
       (sym (run-parts s n k h) ∙ q ∙ run-parts p n k h))
       (λ q r. run-parts s n k h ∙ ap₂ _++_ q r ∙ sym (run-parts p n k h))
 
-  pub runs-parts : (s n p m k : ℕ) {b : Bool} → m ≡ n → k ≤ n → s + n ≤ used → p + m ≤ used → equalRuns names w used s k p k ≡ b
-      → equalRuns names w used s n p m ≡ b && equalRuns names w used (s + k) (n - k) (p + k) (n - k)
-  runs-parts s n p m k e h x y q = rw (e, ← q) (whole s n p k h x (omega arith))
+-- Two runs of one length: their first k terms, and the rest.
+module _ {names w : List ℕ} {r q : Run} {used k : ℕ} (lies : RunsIn names w r q used) (same : q .len ≡ r .len) (fits : k ≤ r .len) where
+  pub front-inside : RunsIn names w (record { start = r .start; len = k }) (record { start = q .start; len = k }) used
+  front-inside = record { store = lies .store; few = lies .few; first = omega (arith, lies .first); second = omega (arith, lies .second) }
+
+  pub rest-inside : RunsIn names w (record { start = r .start + k; len = r .len - k }) (record { start = q .start + k; len = r .len - k }) used
+  rest-inside = record { store = lies .store; few = lies .few; first = omega (arith, lies .first); second = omega (arith, lies .second) }
+
+  pub in-parts : {b : Bool} → sameRuns names w used (record { start = r .start; len = k }) (record { start = q .start; len = k }) ≡ b
+      → sameRuns names w used r q
+      ≡ b && sameRuns names w used (record { start = r .start + k; len = r .len - k }) (record { start = q .start + k; len = r .len - k })
+  in-parts e = rw (same, ← e) (whole names w used (r .start) (r .len) (q .start) k fits (lies .first) (omega (arith, lies .second)))

@@ -1,12 +1,16 @@
 // Equality of terms and runs, term by term: from value.rs (equality of `Value`). Brackets may share contents, so that comparing term by term
 // alone could take as long as all contents written out in full. It is tried first, within a budget; once that is spent, brackets found equal
 // are remembered and not compared again.
+use words::Run;
+use words::refusal;
 ghost use mathlib.Core.Path.{_≡_};
-ghost use Prim.Native.Nat.{_+_, _-_, _<_, _≤_, max, min};
+ghost use Prim.Native.Nat.{ℕ, _+_, _-_, _<_, _≤_, max, min};
 ghost use lib.ListN.{set};
-ghost use Rattle.value.specs.Equal.{Store, equalAt, equalRuns};
+ghost use Rattle.value.specs.Equal.{TermStore, equalAt, equalRuns};
 ghost use Rattle.equality.specs.Compare.{comparedRuns, answerOf};
-ghost use Rattle.equality.specs.Known.{Tells, Down, Remembers, Found, formAt};
+ghost use Rattle.equality.specs.Known.{TermsIn, RunsIn, sameRuns, Tells, Down, Remembers, Decided, Found, formAt};
+ghost use Rattle.words.specs.Records.{asRun};
+ghost use Rattle.term_spec.specs.Term.{limit};
 
 // ---- within a budget ----
 
@@ -18,25 +22,28 @@ enum Outcome {
 }
 
 // Whether terms i and j are equal. Term and run equality call each other: bracket depth falls, so they are at most 512 calls deep.
-fn equal_terms_within(
-    names: &[u8],
-    terms: &[u32],
-    used: usize,
-    i: usize,
-    j: usize,
-    budget: usize,
-) -> Outcome
-    requires { ⌜ Store (now names) (now terms) used ⌝ }
-    requires { ⌜ (i < used) × (j < used) ⌝ }
-    ensures { λ r. ⌜ Tells r (equalAt (now (names .entry)) (now (terms .entry)) used i j) ⌝ }
+fn equal_terms_within(names: &[u8], terms: &[u32], i: usize, j: usize, budget: usize) -> Outcome
+    requires { ⌜ ((used : ℕ) × TermsIn (now names) (now terms) i j used) ⌝ }
+    ensures { λ r.
+        let text = now (names .entry) in
+        let store = now (terms .entry) in
+        ⌜ ((used : ℕ) → TermsIn text store i j used → Tells r (equalAt text store used i j)) ⌝ }
 {
     let t = words::get_term(terms, i);
     let u = words::get_term(terms, j);
     if t.kind != u.kind {
         return Outcome::Different;
     }
-    if t.kind == 3 {
-        return equal_runs_within(names, terms, used, t.a, t.b, u.a, u.b, budget);
+    if t.kind == words::BRACKET {
+        let first = Run {
+            start: t.a,
+            len: t.b,
+        };
+        let second = Run {
+            start: u.a,
+            len: u.b,
+        };
+        return equal_runs_within(names, terms, first, second, budget);
     }
     if value::equal_symbols(names, t, u) {
         return Outcome::Equal(budget);
@@ -44,35 +51,28 @@ fn equal_terms_within(
     Outcome::Different
 }
 
-// Whether the n terms from s on and the m terms from p on are equal. The same run is equal without reading; any other takes its length from
-// the budget.
-fn equal_runs_within(
-    names: &[u8],
-    terms: &[u32],
-    used: usize,
-    s: usize,
-    n: usize,
-    p: usize,
-    m: usize,
-    budget: usize,
-) -> Outcome
-    requires { ⌜ Store (now names) (now terms) used ⌝ }
-    requires { ⌜ (s + n ≤ used) × (p + m ≤ used) ⌝ }
-    ensures { λ r. ⌜ Tells r (equalRuns (now (names .entry)) (now (terms .entry)) used s n p m) ⌝ }
+// Whether two runs are equal. The same run is equal without reading; any other takes its length from the budget.
+fn equal_runs_within(names: &[u8], terms: &[u32], first: Run, second: Run, budget: usize) -> Outcome
+    requires { ⌜ ((used : ℕ) × RunsIn (now names) (now terms) (asRun first) (asRun second) used) ⌝ }
+    ensures { λ r.
+        let text = now (names .entry) in
+        let store = now (terms .entry) in
+        ⌜ ((used : ℕ) → RunsIn text store (asRun first) (asRun second) used
+        → Tells r (sameRuns text store used (asRun first) (asRun second))) ⌝ }
 {
-    if n != m {
+    if first.len != second.len {
         return Outcome::Different;
     }
-    if s == p {
+    if first.start == second.start {
         return Outcome::Equal(budget);
     }
-    if budget < n {
+    if budget < first.len {
         return Outcome::Spent;
     }
-    let mut left = budget - n;
+    let mut left = budget - first.len;
     let mut k = 0;
-    while k < n {
-        match equal_terms_within(names, terms, used, s + k, p + k, left) {
+    while k < first.len {
+        match equal_terms_within(names, terms, first.start + k, second.start + k, left) {
             Outcome::Different => {
                 return Outcome::Different;
             }
@@ -93,8 +93,8 @@ fn equal_runs_within(
 // Terms known to be equal, as trees over their numbers: term x leads to an equal one that stands known[x] below it, or nowhere if that is 0.
 
 // The lowest term that x leads to, step by step. On the way each term looked at is made to lead one step further.
-fn lowest_known(known: &mut [u16; 65536], x: usize) -> usize
-    requires { ⌜ Down (now known) × (x < 65536) ⌝ }
+fn lowest_known(known: &mut [u16; words::LIMIT], x: usize) -> usize
+    requires { ⌜ Down (now known) × (x < limit) ⌝ }
     ensures { λ r. ⌜ Found (now (known .entry)) (now (known .exit)) x r ⌝ }
 {
     let mut at = x;
@@ -111,8 +111,8 @@ fn lowest_known(known: &mut [u16; 65536], x: usize) -> usize
 }
 
 // The larger of two terms leads to the smaller.
-fn link(known: &mut [u16; 65536], a: usize, b: usize)
-    requires { ⌜ (a < 65536) × (b < 65536) ⌝ }
+fn link(known: &mut [u16; words::LIMIT], a: usize, b: usize)
+    requires { ⌜ (a < limit) × (b < limit) ⌝ }
     ensures { λ _. ⌜ now (known .exit) ≡ set (now (known .entry)) (max a b) (max a b - min a b) ⌝ }
 {
     if a < b {
@@ -126,23 +126,23 @@ fn link(known: &mut [u16; 65536], a: usize, b: usize)
 fn equal_terms_known(
     names: &[u8],
     terms: &[u32],
-    used: usize,
     i: usize,
     j: usize,
-    known: &mut [u16; 65536],
+    known: &mut [u16; words::LIMIT],
 ) -> bool
-    requires { ⌜ Store (now names) (now terms) used × (used ≤ 65536) ⌝ }
-    requires { ⌜ (i < used) × (j < used) ⌝ }
-    requires { ⌜ Remembers (formAt (now names) (now terms) used) (now known) ⌝ }
-    ensures { λ r. ⌜ r ≡ equalAt (now (names .entry)) (now (terms .entry)) used i j ⌝ }
-    ensures { λ _. ⌜ Remembers (formAt (now (names .entry)) (now (terms .entry)) used) (now (known .exit)) ⌝ }
+    requires { ⌜ ((used : ℕ) × (TermsIn (now names) (now terms) i j used × Remembers (formAt (now names) (now terms) used) (now known))) ⌝ }
+    ensures { λ r.
+        let text = now (names .entry) in
+        let store = now (terms .entry) in
+        ⌜ ((used : ℕ) → TermsIn text store i j used → Remembers (formAt text store used) (now (known .entry))
+        → Decided text store (now (known .exit)) used r (equalAt text store used i j)) ⌝ }
 {
     let t = words::get_term(terms, i);
     let u = words::get_term(terms, j);
     if t.kind != u.kind {
         return false;
     }
-    if t.kind != 3 {
+    if t.kind != words::BRACKET {
         return value::equal_symbols(names, t, u);
     }
     let a = lowest_known(known, i);
@@ -150,39 +150,46 @@ fn equal_terms_known(
     if a == b {
         return true;
     }
-    if !equal_runs_known(names, terms, used, t.a, t.b, u.a, u.b, known) {
+    let first = Run {
+        start: t.a,
+        len: t.b,
+    };
+    let second = Run {
+        start: u.a,
+        len: u.b,
+    };
+    if !equal_runs_known(names, terms, first, second, known) {
         return false;
     }
     link(known, a, b);
     true
 }
 
-// Whether the n terms from s on and the m terms from p on are equal. The same run is equal without reading.
+// Whether two runs are equal. The same run is equal without reading.
 fn equal_runs_known(
     names: &[u8],
     terms: &[u32],
-    used: usize,
-    s: usize,
-    n: usize,
-    p: usize,
-    m: usize,
-    known: &mut [u16; 65536],
+    first: Run,
+    second: Run,
+    known: &mut [u16; words::LIMIT],
 ) -> bool
-    requires { ⌜ Store (now names) (now terms) used × (used ≤ 65536) ⌝ }
-    requires { ⌜ (s + n ≤ used) × (p + m ≤ used) ⌝ }
-    requires { ⌜ Remembers (formAt (now names) (now terms) used) (now known) ⌝ }
-    ensures { λ r. ⌜ r ≡ equalRuns (now (names .entry)) (now (terms .entry)) used s n p m ⌝ }
-    ensures { λ _. ⌜ Remembers (formAt (now (names .entry)) (now (terms .entry)) used) (now (known .exit)) ⌝ }
+    requires { ⌜ ((used : ℕ) × (RunsIn (now names) (now terms) (asRun first) (asRun second) used
+        × Remembers (formAt (now names) (now terms) used) (now known))) ⌝ }
+    ensures { λ r.
+        let text = now (names .entry) in
+        let store = now (terms .entry) in
+        ⌜ ((used : ℕ) → RunsIn text store (asRun first) (asRun second) used → Remembers (formAt text store used) (now (known .entry))
+        → Decided text store (now (known .exit)) used r (sameRuns text store used (asRun first) (asRun second))) ⌝ }
 {
-    if m != n {
+    if second.len != first.len {
         return false;
     }
-    if p == s {
+    if second.start == first.start {
         return true;
     }
     let mut k = 0;
-    while k < n {
-        if !equal_terms_known(names, terms, used, s + k, p + k, known) {
+    while k < first.len {
+        if !equal_terms_known(names, terms, first.start + k, second.start + k, known) {
             return false;
         }
         k += 1;
@@ -192,32 +199,40 @@ fn equal_runs_known(
 
 // The same, with nothing known at first. The table takes 128 KB of stack. A run longer than half the used terms goes in two parts, since the
 // compiler copies no function that calls itself into its callers: so that stack is set aside by calls of this one alone.
-fn equal_runs_remembering(
-    names: &[u8],
-    terms: &[u32],
-    used: usize,
-    s: usize,
-    n: usize,
-    p: usize,
-    m: usize,
-) -> bool
-    requires { ⌜ Store (now names) (now terms) used × (used ≤ 65536) ⌝ }
-    requires { ⌜ (s + n ≤ used) × (p + m ≤ used) ⌝ }
-    ensures { λ r. ⌜ r ≡ equalRuns (now (names .entry)) (now (terms .entry)) used s n p m ⌝ }
+fn equal_runs_remembering(names: &[u8], terms: &[u32], used: usize, first: Run, second: Run) -> bool
+    requires { ⌜ RunsIn (now names) (now terms) (asRun first) (asRun second) used ⌝ }
+    ensures { λ r.
+        ⌜ r ≡ sameRuns (now (names .entry)) (now (terms .entry)) used (asRun first) (asRun second) ⌝ }
 {
-    if m != n {
+    if second.len != first.len {
         return false;
     }
     let part = used / 2 + 1;
-    if part < n {
-        if !equal_runs_remembering(names, terms, used, s, part, p, part) {
+    if part < first.len {
+        let before = Run {
+            start: first.start,
+            len: part,
+        };
+        let other = Run {
+            start: second.start,
+            len: part,
+        };
+        if !equal_runs_remembering(names, terms, used, before, other) {
             return false;
         }
-        let rest = n - part;
-        return equal_runs_remembering(names, terms, used, s + part, rest, p + part, rest);
+        let rest = first.len - part;
+        let after = Run {
+            start: first.start + part,
+            len: rest,
+        };
+        let other_after = Run {
+            start: second.start + part,
+            len: rest,
+        };
+        return equal_runs_remembering(names, terms, used, after, other_after);
     }
-    let mut known = [0u16; 65536];
-    equal_runs_known(names, terms, used, s, n, p, m, &mut known)
+    let mut known = [0u16; words::LIMIT];
+    equal_runs_known(names, terms, first, second, &mut known)
 }
 
 // ---- runs ----
@@ -236,14 +251,16 @@ pub fn equal_runs(
     p: usize,
     m: usize,
 ) -> bool
-    requires { ⌜ Store (now names) (now terms) used × (used ≤ 65536) ⌝ }
+    requires { ⌜ TermStore (now names) (now terms) used × (used ≤ limit) ⌝ }
     requires { ⌜ (s + n ≤ used) × (p + m ≤ used) ⌝ }
     ensures { λ r. ⌜ r ≡ equalRuns (now (names .entry)) (now (terms .entry)) used s n p m ⌝ }
 {
-    match equal_runs_within(names, terms, used, s, n, p, m, used + EXTRA) {
+    let first = Run { start: s, len: n };
+    let second = Run { start: p, len: m };
+    match equal_runs_within(names, terms, first, second, used + EXTRA) {
         Outcome::Different => false,
         Outcome::Equal(_) => true,
-        Outcome::Spent => equal_runs_remembering(names, terms, used, s, n, p, m),
+        Outcome::Spent => equal_runs_remembering(names, terms, used, first, second),
     }
 }
 
@@ -264,23 +281,24 @@ pub fn compare_runs(
     p: usize,
     m: usize,
 ) -> Compared
-    ensures { λ r. ⌜ answerOf r ≡ comparedRuns (now (names .entry)) (now (terms .entry)) used s n p m ⌝ }
+    ensures { λ r.
+        ⌜ answerOf r ≡ comparedRuns (now (names .entry)) (now (terms .entry)) used s n p m ⌝ }
 {
     let number = value::check_terms(names, terms, used);
     if number != 0 {
         return Compared::Refused(number);
     }
     if used < n {
-        return Compared::Refused(5);
+        return Compared::Refused(refusal::PAST_END);
     }
     if used - n < s {
-        return Compared::Refused(5);
+        return Compared::Refused(refusal::PAST_END);
     }
     if used < m {
-        return Compared::Refused(5);
+        return Compared::Refused(refusal::PAST_END);
     }
     if used - m < p {
-        return Compared::Refused(5);
+        return Compared::Refused(refusal::PAST_END);
     }
     if equal_runs(names, terms, used, s, n, p, m) {
         return Compared::Equal;

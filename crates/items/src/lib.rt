@@ -1,8 +1,7 @@
 // Records of patterns and bindings in lent slices, as structs by value.
 ghost use mathlib.Core.Path.{_≡_};
-ghost use Prim.Native.Nat.{_+_, _*_, _≤_};
-ghost use lib.ListN.{length};
-ghost use Rattle.term_spec.specs.Words.{recordAt};
+ghost use Prim.Native.Nat.{_+_};
+ghost use Rattle.term_spec.specs.Words.{Lies, recordAt};
 ghost use Rattle.match_spec.specs.Pattern.{itemLayout, bindingLayout};
 ghost use Rattle.items.specs.Records.{asItem, asBinding};
 
@@ -23,6 +22,28 @@ pub struct Binding {
     pub len: usize,
 }
 
+// The kinds of pattern records that are no terms.
+pub const OPEN: usize = 3;
+
+pub const CLOSE: usize = 4;
+
+pub const S_VARIABLE: usize = 5;
+
+pub const T_VARIABLE: usize = 6;
+
+pub const E_VARIABLE: usize = 7;
+
+pub const CALL: usize = 8;
+
+pub const BLOCK: usize = 9;
+
+// The most records of a pattern, the most brackets of it one in another, and the most names of start and pattern together.
+pub const PATTERN_LIMIT: usize = 256;
+
+pub const NESTING_LIMIT: usize = 32;
+
+pub const NAME_LIMIT: usize = 64;
+
 // The widths of a pattern record and of a binding, in words.
 pub const ITEM_WIDTH: usize = 4;
 
@@ -30,7 +51,7 @@ pub const BINDING_WIDTH: usize = 5;
 
 // Record i of a pattern.
 pub fn get_item(pattern: &[u32], i: usize) -> Item
-    requires { ⌜ i * 4 + 4 ≤ length (now pattern) ⌝ }
+    requires { ⌜ Lies itemLayout (now pattern) (i + 1) ⌝ }
     ensures { λ r. ⌜ asItem r ≡ recordAt itemLayout (now (pattern .entry)) i ⌝ }
 {
     let p = i * ITEM_WIDTH;
@@ -44,7 +65,7 @@ pub fn get_item(pattern: &[u32], i: usize) -> Item
 
 // Binding i.
 pub fn get_binding(bindings: &[u32], i: usize) -> Binding
-    requires { ⌜ i * 5 + 5 ≤ length (now bindings) ⌝ }
+    requires { ⌜ Lies bindingLayout (now bindings) (i + 1) ⌝ }
     ensures { λ r. ⌜ asBinding r ≡ recordAt bindingLayout (now (bindings .entry)) i ⌝ }
 {
     let p = i * BINDING_WIDTH;

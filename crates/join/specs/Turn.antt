@@ -1,11 +1,13 @@
--- One turn of a join, as the code answers it, is a plan's first step; the rest of the plan starts at a lower node.
+-- What the functions of this crate ask and answer: one turn of a join is a plan's first step, the rest of the plan starts at a lower node.
 use Prim.{Unit}
 use mathlib.Core.Path.{_≡_}
 use mathlib.Core.List.{List}
-use Prim.Native.Nat.{ℕ, _<_}
-use Rattle.view_spec.specs.Node.{Node}
-use Rattle.view_spec.specs.Build.{Plan, base, single, double, plan}
-use Rattle.view_spec.specs.JoinLaws.{Piece}
+use Prim.Native.Nat.{ℕ, _+_, _<_, _≤_}
+use Rattle.term_spec.specs.Words.{Lies}
+use Rattle.term_spec.specs.Term.{limit}
+use Rattle.view_spec.specs.Node.{Node, nodeLayout, nodeAt, Piece}
+use Rattle.view_spec.specs.Build.{Plan, base, single, double, plan, planMakes, grow}
+use Rattle.nodes.specs.NodeStore.{nodesIn}
 use Rattle.join.specs.declared.Turn.{Turn}
 use Rattle.join.specs.declared.Turn.the-variants.{Base, Single, Double}
 
@@ -25,3 +27,19 @@ Rest ns node (Double a b c d x n) = (x < node) × Piece ns x n
 pub record Turned (ns : List Node) (h node len : ℕ) (t : Turn) : Type 0 where
   pub plans : turnPlan ns h t ≡ plan ns h node len
   pub rest : Rest ns node t
+
+-- The plan of a join of the first len terms of `node` before node `right`.
+abbrev pub planBefore : List Node → ℕ → ℕ → ℕ → Plan
+planBefore ns right node len = plan ns ((nodeAt ns right) .height) node len
+
+-- The nodes after that join.
+abbrev pub grown : List Node → ℕ → ℕ → ℕ → List Node
+grown ns right node len = grow right (planBefore ns right node len) ns
+
+-- There is a right, and the nodes made end at `end`, which is within limit and slice.
+pub record Joins (w : List ℕ) (used right node len end : ℕ) : Type 0 where
+  pub low : right < used
+  pub some-node : 1 ≤ (nodeAt (nodesIn w used) right) .kind
+  pub made : end ≡ used + planMakes (planBefore (nodesIn w used) right node len)
+  pub few : end ≤ limit
+  pub room : Lies nodeLayout w end

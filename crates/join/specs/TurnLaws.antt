@@ -2,34 +2,23 @@
 use mathlib.Core.Path.{_≡_, refl, ap, sym, _∙_}
 use mathlib.Core.List.{List}
 use mathlib.Core.Logic.{inl, inr}
-use lib.ListN.{length, replicate, length-replicate}
+use lib.ListN.{length}
 use Prim.{tt}
 use Prim.Native.Nat.{ℕ, suc, zero, _-_, _<_, _≤_}
 use native.Mathlib.Decide.{decLe, decLt}
 use native.Mathlib.Omega.{arith}
 use Rattle.term_spec.specs.Words.{recordAt}
 use Rattle.term_spec.specs.WordsLaws.{decode-length}
-use Rattle.view_spec.specs.Node.{Node, nodeLayout, nodeAt}
-use Rattle.view_spec.specs.NodeLaws.{ConcatAt, NodeAt, GoodNodes, node-at}
+use Rattle.view_spec.specs.Node.{Node, nodeLayout, concatKind, nodeAt, GoodNodes, Piece}
+use Rattle.view_spec.specs.NodeLaws.{ConcatAt, NodeAt, node-at}
 use Rattle.view_spec.specs.Build.{ifDec, base, single, double, unclamp, plan, planMakes}
 use Rattle.view_spec.specs.PlanLaws.{left, leftLen, right, innerRight, if-yes, if-no, unclamp-induct, unclamped, unclamp-over, inner-low, plan-leaf, plan-concat, secondTurn}
-use Rattle.view_spec.specs.JoinLaws.{Piece}
-use Rattle.nodes.specs.Store.{nodesIn, Store}
+use Rattle.nodes.specs.NodeStore.{nodesIn, AnyStore}
 use Rattle.nodes.specs.RuleLaws.{below-at}
-use Rattle.nodes.specs.Store.{nodesIn, Store}
-use Rattle.nodes.specs.RuleLaws.{below-at}
-use Rattle.nodes.specs.Store.{nodesIn, Store}
-use Rattle.nodes.specs.RuleLaws.{below-at}
+use Rattle.nodes.specs.MakeLaws.{any, good-any, concat-at, leaf-at}
 use Rattle.join.specs.Turn.{Turned}
 use Rattle.join.specs.declared.Turn.{Turn}
 use Rattle.join.specs.declared.Turn.the-variants.{Base, Single, Double}
-
--- A list that has an entry for each term: laws over terms are used for their number only.
-abbrev pub any : ℕ → List ℕ
-any terms = replicate terms 0
-
-pub good-any : (terms : ℕ) (ns : List Node) → GoodNodes terms ns → GoodNodes (length (any terms)) ns
-good-any terms ns g = rw length-replicate g
 
 second-leaf : (k : ℕ) (ns : List Node) (h i j len : ℕ) → k ≤ 1 → secondTurn k ns h i j len ≡ base i len
 unfolding secondTurn
@@ -43,23 +32,6 @@ unfolding secondTurn
 second-concat k ns h i j len e q = rw e (if-yes (decLt (leftLen ns j) (len - leftLen ns i)) _ _ q)
 
 module _ (terms : ℕ) (ns : List Node) (g : GoodNodes terms ns) where
-  -- A Concat, where the code tests the kind; no Concat.
-  pub concat-at : (i : ℕ) → i < length ns → (nodeAt ns i) .kind ≡ 2 → ConcatAt ns i
-  concat-at i lt k = go (node-at terms ns i g lt)
-    where
-      go : NodeAt terms ns i → ConcatAt ns i
-      go (inl m) = absurd (omega arith)
-      go (inr (inl m)) = absurd (omega arith)
-      go (inr (inr m)) = m
-
-  leaf-at : (i : ℕ) → i < length ns → ((nodeAt ns i) .kind ≡ 2 → ⊥) → (nodeAt ns i) .kind ≤ 1
-  leaf-at i lt k = go (node-at terms ns i g lt)
-    where
-      go : NodeAt terms ns i → (nodeAt ns i) .kind ≤ 1
-      go (inl m) = omega arith
-      go (inr (inl m)) = omega arith
-      go (inr (inr m)) = absurd (k (m .kind2))
-
   module _ (h : ℕ) where
     -- An unclamped node has the plan of the node it was reached from.
     plan-down : (i len : ℕ) → i < length ns → len ≤ (nodeAt ns i) .reach → plan ns h (unclamp ns i len) len ≡ plan ns h i len
@@ -87,7 +59,7 @@ module _ (terms : ℕ) (ns : List Node) (g : GoodNodes terms ns) where
 
     module _ {node len x : ℕ} (t : Top node len x) where
       turned-leaf : ((nodeAt ns x) .kind ≡ 2 → ⊥) → Turned ns h node len (Base x len)
-      turned-leaf k = record { plans = sym (plan-leaf ns h x len (t .piece .below) (leaf-at x (t .piece .below) k)) ∙ t .same; rest = tt }
+      turned-leaf k = record { plans = sym (plan-leaf ns h x len (t .piece .below) (leaf-at terms ns g x (t .piece .below) k)) ∙ t .same; rest = tt }
 
       module _ (m : ConcatAt ns x) where
         inner-piece : Piece ns (right ns x) (len - leftLen ns x)
@@ -132,7 +104,7 @@ module _ (terms : ℕ) (ns : List Node) (g : GoodNodes terms ns) where
             inner = top (right ns x) (len - leftLen ns x) inner-piece
 
             turned-inner-leaf : ((nodeAt ns (innerRight ns x len)) .kind ≡ 2 → ⊥) → Turned ns h node len (Base x len)
-            turned-inner-leaf k = record { plans = sym (second ∙ second-leaf _ ns h x (innerRight ns x len) len (leaf-at (innerRight ns x len) (inner .piece .below) k)); rest = tt }
+            turned-inner-leaf k = record { plans = sym (second ∙ second-leaf _ ns h x (innerRight ns x len) len (leaf-at terms ns g (innerRight ns x len) (inner .piece .below) k)); rest = tt }
 
             turned-double : (k : ConcatAt ns (innerRight ns x len)) → leftLen ns (innerRight ns x len) < len - leftLen ns x
                 → Turned ns h node len (Double (left ns x) (leftLen ns x) (left ns (innerRight ns x len)) (leftLen ns (innerRight ns x len))
@@ -159,10 +131,10 @@ pub record AtConcat (x len : ℕ) (n : Node) : Type 0 where
   pub tall : 1 ≤ n .height
   pub over : n .b < len
 
-module _ (w : List ℕ) (terms used h node len : ℕ) (s : Store w terms used) (p : Piece (nodesIn w used) node len) {x : ℕ} {n : Node}
+module _ (w : List ℕ) (used h node len : ℕ) (s : AnyStore w used) (p : Piece (nodesIn w used) node len) {x : ℕ} {n : Node}
     (ux : x ≡ unclamp (nodesIn w used) node len) (en : n ≡ recordAt nodeLayout w x) where
-  at-top : Top terms (nodesIn w used) (s .good) h node len x
-  at-top = rw ux (top terms (nodesIn w used) (s .good) h node len p)
+  at-top : Top (s .terms) (nodesIn w used) (s .store .good) h node len x
+  at-top = rw ux (top (s .terms) (nodesIn w used) (s .store .good) h node len p)
 
   inside : (i : ℕ) → i < length (nodesIn w used) → i < used
   inside i lt = rw decode-length at lt
@@ -170,26 +142,26 @@ module _ (w : List ℕ) (terms used h node len : ℕ) (s : Store w terms used) (
   read : n ≡ nodeAt (nodesIn w used) x
   read = below-at w used x en (inside x (at-top .piece .below))
 
-  concat : n .kind ≡ 2 → ConcatAt (nodesIn w used) x
-  concat k = concat-at terms (nodesIn w used) (s .good) x (at-top .piece .below) (rw read at k)
+  concat : n .kind ≡ concatKind → ConcatAt (nodesIn w used) x
+  concat k = concat-at (s .terms) (nodesIn w used) (s .store .good) x (at-top .piece .below) (rw read at k)
 
   pub there : x < used
   there = inside x (at-top .piece .below)
 
-  pub at-concat : n .kind ≡ 2 → AtConcat x len n
+  pub at-concat : n .kind ≡ concatKind → AtConcat x len n
   at-concat k =
       let m = concat k in
       rw read (record { left-low = m .left-low; right-low = m .right-low; tall = omega (arith, m .height2); over = at-top .over (omega (arith, m .kind2)) })
 
-  pub turn-leaf : (n .kind ≡ 2 → ⊥) → Turned (nodesIn w used) h node len (Base x len)
-  turn-leaf k = turned-leaf terms (nodesIn w used) (s .good) h at-top (rw read at k)
+  pub turn-leaf : (n .kind ≡ concatKind → ⊥) → Turned (nodesIn w used) h node len (Base x len)
+  turn-leaf k = turned-leaf (s .terms) (nodesIn w used) (s .store .good) h at-top (rw read at k)
 
-  module _ (k : n .kind ≡ 2) where
+  module _ (k : n .kind ≡ concatKind) where
     pub turn-low : n .height - 1 ≤ h → Turned (nodesIn w used) h node len (Base x len)
-    turn-low q = turned-low terms (nodesIn w used) (s .good) h at-top (concat k) (let z = rw read at q in omega arith)
+    turn-low q = turned-low (s .terms) (nodesIn w used) (s .store .good) h at-top (concat k) (let z = rw read at q in omega arith)
 
     pub right-piece : Piece (nodesIn w used) (n .c) (len - n .b)
-    right-piece = rw read (inner-piece terms (nodesIn w used) (s .good) h at-top (concat k))
+    right-piece = rw read (inner-piece (s .terms) (nodesIn w used) (s .store .good) h at-top (concat k))
 
     module _ {l r : Node} (q : h < n .height - 1) (el : l ≡ recordAt nodeLayout w (n .a)) (er : r ≡ recordAt nodeLayout w (n .c)) where
       taller : suc h < (nodeAt (nodesIn w used) x) .height
@@ -202,7 +174,7 @@ module _ (w : List ℕ) (terms used h node len : ℕ) (s : Store w terms used) (
       right-is = below-at w used (n .c) er (omega (arith, at-concat k .right-low, there)) ∙ ap (λ z. nodeAt (nodesIn w used) (z .c)) read
 
       pub turn-single : r .height ≤ l .height → Turned (nodesIn w used) h node len (Single (n .a) (n .b) (n .c) (len - n .b))
-      turn-single z = rw read (turned-single terms (nodesIn w used) (s .good) h at-top (concat k) taller (rw (left-is, right-is) at z))
+      turn-single z = rw read (turned-single (s .terms) (nodesIn w used) (s .store .good) h at-top (concat k) taller (rw (left-is, right-is) at z))
 
       module _ {y : ℕ} {m : Node} (z : l .height < r .height) (uy : y ≡ unclamp (nodesIn w used) (n .c) (len - n .b)) (em : m ≡ recordAt nodeLayout w y) where
         right-taller : (nodeAt (nodesIn w used) (left (nodesIn w used) x)) .height < (nodeAt (nodesIn w used) (right (nodesIn w used) x)) .height
@@ -211,19 +183,19 @@ module _ (w : List ℕ) (terms used h node len : ℕ) (s : Store w terms used) (
         inner-is : y ≡ innerRight (nodesIn w used) x len
         inner-is = uy ∙ ap (λ z. unclamp (nodesIn w used) (z .c) (len - z .b)) read
 
-        inner-top : Top terms (nodesIn w used) (s .good) h (right (nodesIn w used) x) (len - leftLen (nodesIn w used) x) (innerRight (nodesIn w used) x len)
-        inner-top = inner terms (nodesIn w used) (s .good) h at-top (concat k) taller right-taller
+        inner-top : Top (s .terms) (nodesIn w used) (s .store .good) h (right (nodesIn w used) x) (len - leftLen (nodesIn w used) x) (innerRight (nodesIn w used) x len)
+        inner-top = inner (s .terms) (nodesIn w used) (s .store .good) h at-top (concat k) taller right-taller
 
         middle-is : m ≡ nodeAt (nodesIn w used) (innerRight (nodesIn w used) x len)
         middle-is = below-at w used y em (rw inner-is (inside (innerRight (nodesIn w used) x len) (inner-top .piece .below))) ∙ ap (nodeAt (nodesIn w used)) inner-is
 
-        pub turn-inner-leaf : (m .kind ≡ 2 → ⊥) → Turned (nodesIn w used) h node len (Base x len)
-        turn-inner-leaf d = turned-inner-leaf terms (nodesIn w used) (s .good) h at-top (concat k) taller right-taller (rw middle-is at d)
+        pub turn-inner-leaf : (m .kind ≡ concatKind → ⊥) → Turned (nodesIn w used) h node len (Base x len)
+        turn-inner-leaf d = turned-inner-leaf (s .terms) (nodesIn w used) (s .store .good) h at-top (concat k) taller right-taller (rw middle-is at d)
 
-        pub turn-double : m .kind ≡ 2 → Turned (nodesIn w used) h node len (Double (n .a) (n .b) (m .a) (m .b) (m .c) (len - n .b - m .b))
+        pub turn-double : m .kind ≡ concatKind → Turned (nodesIn w used) h node len (Double (n .a) (n .b) (m .a) (m .b) (m .c) (len - n .b - m .b))
         turn-double d =
-            let c = concat-at terms (nodesIn w used) (s .good) (innerRight (nodesIn w used) x len) (inner-top .piece .below) (rw middle-is at d) in
-            rw (middle-is, read) (turned-double terms (nodesIn w used) (s .good) h at-top (concat k) taller right-taller c (inner-top .over (omega (arith, c .kind2))))
+            let c = concat-at (s .terms) (nodesIn w used) (s .store .good) (innerRight (nodesIn w used) x len) (inner-top .piece .below) (rw middle-is at d) in
+            rw (middle-is, read) (turned-double (s .terms) (nodesIn w used) (s .store .good) h at-top (concat k) taller right-taller c (inner-top .over (omega (arith, c .kind2))))
 
 pub piece-in : (w : List ℕ) (used : ℕ) {i len : ℕ} → Piece (nodesIn w used) i len → i < used
 piece-in w used p = let z = p .below in rw decode-length at z

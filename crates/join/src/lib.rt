@@ -1,17 +1,11 @@
 // Joining ropes (value.rs, `join`), as loops: a store can be 65,535 nodes high, so nothing here recurses.
-use words::Node;
 ghost use mathlib.Core.Path.{_≡_};
-ghost use mathlib.Core.List.{[], _∷_};
-ghost use Prim.Native.Nat.{_+_, _*_, _<_, _≤_};
-ghost use lib.ListN.{length, drop};
+ghost use lib.ListN.{drop};
 ghost use Rattle.term_spec.specs.Words.{write};
-ghost use Rattle.view_spec.specs.Node.{nodeLayout, nodeAt};
-ghost use Rattle.view_spec.specs.NodeLaws.{GoodNodes};
+ghost use Rattle.view_spec.specs.Node.{nodeLayout, Piece};
 ghost use Rattle.view_spec.specs.Build.{plan, planMakes};
-ghost use Rattle.view_spec.specs.JoinLaws.{Piece};
-ghost use Rattle.nodes.specs.Store.{nodesIn, Store};
-ghost use Rattle.join.specs.Turn.{Turned};
-ghost use Rattle.join.specs.Outer.{outer, completed, Became, planBefore, grown};
+ghost use Rattle.nodes.specs.NodeStore.{nodesIn, AnyStore};
+ghost use Rattle.join.specs.Turn.{Turned, grown, Joins};
 
 // One step of a join, from the top of the left down. Base: the first terms of a node, before the right. Single: the first terms of a node,
 // before the rest. Double: a head of a node's first terms and a further node, the first terms of that head, before the rest.
@@ -22,21 +16,14 @@ pub enum Turn {
 }
 
 // The turn for the first len terms of a node, h being the right's height.
-pub fn next_turn(
-    nodes: &[u32],
-    terms: usize,
-    used: usize,
-    h: usize,
-    node: usize,
-    len: usize,
-) -> Turn
-    requires { ⌜ Store (now nodes) terms used ⌝ }
+pub fn next_turn(nodes: &[u32], used: usize, h: usize, node: usize, len: usize) -> Turn
+    requires { ⌜ AnyStore (now nodes) used ⌝ }
     requires { ⌜ Piece (nodesIn (now nodes) used) node len ⌝ }
     ensures { λ r. ⌜ Turned (nodesIn (now (nodes .entry)) used) h node len r ⌝ }
 {
-    let left = nodes::unclamp(nodes, terms, used, node, len);
+    let left = nodes::unclamp(nodes, used, node, len);
     let n = words::get_node(nodes, left);
-    if n.kind != 2 {
+    if n.kind != words::CONCAT {
         return Turn::Base(left, len);
     }
     if n.height - 1 <= h {
@@ -48,24 +35,17 @@ pub fn next_turn(
     if inner_right.height <= inner_left.height {
         return Turn::Single(n.a, n.b, n.c, inner);
     }
-    let middle = nodes::unclamp(nodes, terms, used, n.c, inner);
+    let middle = nodes::unclamp(nodes, used, n.c, inner);
     let m = words::get_node(nodes, middle);
-    if m.kind != 2 {
+    if m.kind != words::CONCAT {
         return Turn::Base(left, len);
     }
     Turn::Double(n.a, n.b, m.a, m.b, m.c, inner - m.b)
 }
 
 // How many nodes a join makes: the turns counted, nothing written.
-pub fn join_makes(
-    nodes: &[u32],
-    terms: usize,
-    used: usize,
-    h: usize,
-    node: usize,
-    len: usize,
-) -> usize
-    requires { ⌜ Store (now nodes) terms used ⌝ }
+pub fn join_makes(nodes: &[u32], used: usize, h: usize, node: usize, len: usize) -> usize
+    requires { ⌜ AnyStore (now nodes) used ⌝ }
     requires { ⌜ Piece (nodesIn (now nodes) used) node len ⌝ }
     ensures { λ r. ⌜ r ≡ planMakes (plan (nodesIn (now (nodes .entry)) used) h node len) ⌝ }
 {
@@ -73,7 +53,7 @@ pub fn join_makes(
     let mut n = len;
     let mut made = 1;
     loop {
-        match next_turn(nodes, terms, used, h, at, n) {
+        match next_turn(nodes, used, h, at, n) {
             Turn::Base(_, _) => {
                 return made;
             }
@@ -91,52 +71,16 @@ pub fn join_makes(
     }
 }
 
-// Record k becomes a Concat of a's first b terms before a node that is not known yet.
-fn reserve(nodes: &mut [u32], k: usize, a: usize, b: usize)
-    requires { ⌜ (k * 6 + 6 ≤ length (now nodes)) × (a ≤ 65536) × (b ≤ 65536) ⌝ }
-    ensures { λ _. ⌜ now (nodes .exit) ≡ write nodeLayout (now (nodes .entry)) k (outer a b ∷ []) ⌝ }
-{
-    let n = Node {
-        kind: 2,
-        a,
-        b,
-        c: 0,
-        height: 0,
-        reach: 0,
-    };
-    words::put_node(nodes, k, n);
-}
-
-// The reserved records from `from` to `end` become nodes, each before it the node just made.
-fn complete(nodes: &mut [u32], terms: usize, from: usize, end: usize)
-    requires { ⌜ (1 ≤ from) × (from ≤ end) × (end ≤ 65536) × (end * 6 ≤ length (now nodes)) ⌝ }
-    requires { ⌜ GoodNodes terms (completed (now nodes) from end) ⌝ }
-    ensures { λ _. ⌜ Became (now (nodes .entry)) (now (nodes .exit)) end (completed (now (nodes .entry)) from end) ⌝ }
-{
-    let mut k = from;
-    while k < end {
-        let n = words::get_node(nodes, k);
-        nodes::make_concat(nodes, terms, k, n.a, n.b, k - 1);
-        k += 1;
-    }
-}
-
 // The nodes of a join: the first len terms of a node, before node `right`. `end` is the used count after it, which the caller has counted.
 // Down: heads are made at the lowest free number, outer Concats are reserved at the highest; then up.
-pub fn join_build(
-    nodes: &mut [u32],
-    terms: usize,
-    used: usize,
-    right: usize,
-    node: usize,
-    len: usize,
-    end: usize,
-)
-    requires { ⌜ Store (now nodes) terms used ⌝ }
+pub fn join_build(nodes: &mut [u32], used: usize, right: usize, node: usize, len: usize, end: usize)
+    requires { ⌜ AnyStore (now nodes) used ⌝ }
     requires { ⌜ Piece (nodesIn (now nodes) used) node len ⌝ }
-    requires { ⌜ (right < used) × (1 ≤ (nodeAt (nodesIn (now nodes) used) right) .kind) ⌝ }
-    requires { ⌜ (end ≡ used + planMakes (planBefore (nodesIn (now nodes) used) right node len)) × (end ≤ 65536) × (end * 6 ≤ length (now nodes)) ⌝ }
-    ensures { λ _. ⌜ now (nodes .exit) ≡ write nodeLayout (now (nodes .entry)) used (drop used (grown (nodesIn (now (nodes .entry)) used) right node len)) ⌝ }
+    requires { ⌜ Joins (now nodes) used right node len end ⌝ }
+    ensures { λ _.
+        let before = now (nodes .entry) in
+        let new = drop used (grown (nodesIn before used) right node len) in
+        ⌜ now (nodes .exit) ≡ write nodeLayout before used new ⌝ }
 {
     let r = words::get_node(nodes, right);
     let h = r.height;
@@ -145,22 +89,22 @@ pub fn join_build(
     let mut at = node;
     let mut n = len;
     loop {
-        match next_turn(nodes, terms, used, h, at, n) {
+        match next_turn(nodes, used, h, at, n) {
             Turn::Base(l, m) => {
-                nodes::make_concat(nodes, terms, lo, l, m, right);
-                complete(nodes, terms, hi, end);
+                nodes::make_concat(nodes, lo, l, m, right);
+                nodes::complete(nodes, hi, end, lo);
                 return;
             }
             Turn::Single(a, b, x, m) => {
                 hi = hi - 1;
-                reserve(nodes, hi, a, b);
+                nodes::reserve(nodes, hi, a, b, 0);
                 at = x;
                 n = m;
             }
             Turn::Double(a, b, c, d, x, m) => {
-                nodes::make_concat(nodes, terms, lo, a, b, c);
+                nodes::make_concat(nodes, lo, a, b, c);
                 hi = hi - 1;
-                reserve(nodes, hi, lo, b + d);
+                nodes::reserve(nodes, hi, lo, b + d, 0);
                 lo = lo + 1;
                 at = x;
                 n = m;

@@ -6,7 +6,14 @@ use Prim.Native.Nat.{ℕ, suc, zero}
 use Rattle.term_spec.specs.Term.{Term}
 use Rattle.term_spec.specs.Value.{takesTable, unknownColumn}
 
--- The entry of the specification's table.
+-- The size of the specification's table.
+abbrev pub rows : ℕ
+rows = 3
+
+abbrev pub columns : ℕ
+columns = 7
+
+-- Its entry.
 unfoldable pub takesAt : ℕ → ℕ → Bool
 takesAt row column = getD (getD takesTable row []) column false
 

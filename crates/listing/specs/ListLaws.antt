@@ -5,90 +5,92 @@ use mathlib.Core.Option.{Option, some, none}
 use mathlib.Core.Bool.{Bool, true, false}
 use borrow.Author.Tests.{leb-true, le-leb, lt-leb}
 use lib.Dec.{T, leb}
-use lib.ListN.{length, take, drop, length-map, length-append}
+use lib.ListN.{length, take, length-map, length-append}
 use Prim.Native.Nat.{ℕ, _+_, _*_, _/_, _<_, _≤_, min}
 use native.Mathlib.Nat.{mul-le-mul-right}
 use native.Mathlib.Omega.{arith}
 use Rattle.term_spec.specs.BoolLaws.{both-of}
 use Rattle.term_spec.specs.ListLaws.{All}
-use Rattle.term_spec.specs.Words.{decode, count, records, write}
+use Rattle.term_spec.specs.Words.{Lies, decode, count, records, write}
 use Rattle.term_spec.specs.WordsLaws.{term-lays, decode-length, decode-write, write-length}
-use Rattle.term_spec.specs.Term.{Term, Run, noRun, termLayout, runRule, runsRule}
+use Rattle.term_spec.specs.Term.{Term, Run, limit, termLayout, runRule, runsRule}
+use Rattle.term_spec.specs.Refusal.{tooManyNames, termsFull}
 use Rattle.term_spec.specs.TermLaws.{run-facts}
 use Rattle.view_spec.specs.Node.{nodeAt}
 use Rattle.view_spec.specs.Read.{copy, settledRun}
 use Rattle.view_spec.specs.SettleLaws.{Settles, settles}
-use Rattle.match_spec.specs.Pattern.{itemLayout, bindingLayout, boundRun, bindingName, patternRule}
+use Rattle.match_spec.specs.Pattern.{itemLayout, bindingLayout, boundRun, bindingName, patternRule, patternLimit, nameLimit}
 use Rattle.match_spec.specs.NameLaws.{names-grow}
-use Rattle.match_spec.specs.Walk.{runs, walk}
+use Rattle.match_spec.specs.Walk.{runs}
 use Rattle.match_spec.specs.Answer.{Wanted, Progress, slotsIn, absorb, numberOf}
 use Rattle.match_spec.specs.RunLaws.{Inside}
-use Rattle.calls_spec.specs.Store.{Store as Stores, terms, nodes, capacity, addTerms}
-use Rattle.calls_spec.specs.Step.{Request, Answer, refused, built, truth, inStore, inWork, listed, answerNumber, callMatch, ask, slotsLent, workLent, evenRule, arguments, input, room, accept, refuse, step, items, bindings, patternOf, startNames, allNames, numberedPattern, startRuns, fieldCopy, matchEvents, matchProgress, matchAnswer, fillSlots, afterMatch}
+use Rattle.calls_spec.specs.Store.{Store, terms, nodes, capacity, addTerms}
+use Rattle.calls_spec.specs.Step.{Request, Answer, refused, inStore, answerNumber, callMatch, ask, evenRequest, askRequest, given, fits, changed, deed, input, room, accept, refuse}
+use Rattle.calls_spec.specs.Step.{step, items, bindings, patternOf, startNames, allNames, numberedPattern, startRuns, fieldCopy, matchEvents, matchProgress, matchAnswer, fillSlots}
 use Rattle.view_spec.specs.NodeLaws.{facts-field}
 use Rattle.calls_spec.specs.Demand3.{readSlots}
 use Rattle.view.specs.Check.{storeOf, numbered}
 use Rattle.view.specs.StepLaws.{step-refused, step-full, step-done}
 use Rattle.view_read.specs.Read.{settledIf, settledBy}
-use Rattle.value.specs.Equal.{Store as TermStore}
-use Rattle.nodes.specs.Store.{nodesIn, Store}
+use Rattle.value.specs.Equal.{TermStore}
+use Rattle.nodes.specs.NodeStore.{nodesIn, NodeStore}
 use Rattle.pattern.specs.Records.{numbersOf}
-use Rattle.steps.specs.State.{Place, stackOf, levelOf, levelsOf, entriesOf}
-use Rattle.steps.specs.TurnLaws.{Stays}
+use Rattle.steps.specs.State.{stackOf, levelOf, levelsOf, entriesOf, patternIn}
+use Rattle.steps.specs.Stays.{Stays}
 use Rattle.matcher.specs.declared.Tally.{Tally}
-use Rattle.matcher.specs.Ready.{patternIn, candidatesIn, statusOf, progressOf, Ready, Filled}
-use Rattle.listing.specs.Match.{leavesSlots, asksTo8, refusedTo8}
+use Rattle.matcher.specs.Ready.{givenOf, candidatesIn, statusOf, progressOf, wantedOf, SlotsReady, Filled, Written}
+use Rattle.listing.specs.Match.{leavesSlots, asksTo8, refusedTo8, noTally, ReadyToStart, eventsAt}
 use Rattle.listing.specs.RefusalLaws.{to8-refused, to8-passed, Within8}
 use Rattle.listing.specs.NumberLaws.{number-coded, pattern-sound}
 use Rattle.listing.specs.SlotLaws.{candidates-length, slots-filled, room-for}
 
 -- ---- refusals ----
 
-module _ (s : Stores) (q : Wanted) (m : Request) where
+module _ (s : Store) (q : Wanted) (m : Request) where
   -- the input's number: 1 to 8, then 9
-  pub input-is : input s (callMatch q m) ≡ asksTo8 s (m .field) (m .pattern) (m .bindings) (ask (leb (length (allNames s m)) 64) 9 none)
-  unfolding input arguments evenRule asksTo8
+  pub input-is : input s (callMatch q m) ≡ asksTo8 s (m .field) (m .pattern) (m .bindings) (ask (leb (length (allNames s m)) nameLimit) tooManyNames none)
+  unfolding input deed askRequest given evenRequest asksTo8
   input-is = refl
 
   left-refused : (n : ℕ) → step s (callMatch q m) ≡ refuse s (callMatch q m) n → leavesSlots (refused n) s (m .slots) ≡ step s (callMatch q m)
-  unfolding leavesSlots refuse slotsLent workLent
+  unfolding leavesSlots refuse given
   left-refused n e = sym e
 
-  pub list-refused : {n : ℕ} → asksTo8 s (m .field) (m .pattern) (m .bindings) (ask (leb (length (allNames s m)) 64) 9 none) ≡ some n
+  pub list-refused : {n : ℕ} → asksTo8 s (m .field) (m .pattern) (m .bindings) (ask (leb (length (allNames s m)) nameLimit) tooManyNames none) ≡ some n
       → leavesSlots (refused n) s (m .slots) ≡ step s (callMatch q m)
   list-refused {n} e = left-refused n (step-refused s (callMatch q m) (input-is ∙ e))
 
   module _ (pass : (x : Option ℕ) → asksTo8 s (m .field) (m .pattern) (m .bindings) x ≡ x) where
-    pub list-names : 64 < length (allNames s m) → leavesSlots (refused 9) s (m .slots) ≡ step s (callMatch q m)
+    pub list-names : nameLimit < length (allNames s m) → leavesSlots (refused tooManyNames) s (m .slots) ≡ step s (callMatch q m)
     unfolding ask
-    list-names h = list-refused (pass _ ∙ rw (lt-leb (length (allNames s m)) 64 h) refl)
+    list-names h = list-refused (pass _ ∙ rw (lt-leb (length (allNames s m)) nameLimit h) refl)
 
-    input-none : length (allNames s m) ≤ 64 → input s (callMatch q m) ≡ none
+    input-none : length (allNames s m) ≤ nameLimit → input s (callMatch q m) ≡ none
     unfolding ask
-    input-none h = input-is ∙ pass _ ∙ rw (le-leb (length (allNames s m)) 64 h) refl
+    input-none h = input-is ∙ pass _ ∙ rw (le-leb (length (allNames s m)) nameLimit h) refl
 
-    -- the room for the settled copy
-    abbrev fits : Bool
-    fits = leb (s .termsUsed + length (fieldCopy s (m .field))) (capacity termLayout (s .termWords))
+    -- whether there is room for the settled copy
+    abbrev copyFits : Bool
+    copyFits = leb (s .termsUsed + length (fieldCopy s (m .field))) (capacity termLayout (s .termWords))
 
-    room-is : room s (callMatch q m) ≡ ask fits 13 none
-    unfolding room
+    room-is : room s (callMatch q m) ≡ ask copyFits termsFull none
+    unfolding room fits deed ask
     room-is = refl
 
-    pub list-full : length (allNames s m) ≤ 64 → fits ≡ false → leavesSlots (refused 13) s (m .slots) ≡ step s (callMatch q m)
+    pub list-full : length (allNames s m) ≤ nameLimit → copyFits ≡ false → leavesSlots (refused termsFull) s (m .slots) ≡ step s (callMatch q m)
     unfolding ask
-    list-full h e = left-refused 13 (step-full s (callMatch q m) (input-none h) (room-is ∙ rw e refl))
+    list-full h e = left-refused termsFull (step-full s (callMatch q m) (input-none h) (room-is ∙ rw e refl))
 
-    pub list-done : length (allNames s m) ≤ 64 → fits ≡ true → {o : Progress (List Run)} → o ≡ matchProgress s q m → {a : Answer} {w : List ℕ}
+    pub list-done : length (allNames s m) ≤ nameLimit → copyFits ≡ true → {o : Progress (List Run)} → o ≡ matchProgress s q m → {a : Answer} {w : List ℕ}
         → a ≡ matchAnswer (numberOf (o .status) (o .written)) (length (o .written)) (length (allNames s m)) → w ≡ fillSlots (m .slots) (o .written)
         → leavesSlots a (addTerms s (fieldCopy s (m .field))) w ≡ step s (callMatch q m)
-    unfolding ask leavesSlots accept afterMatch
+    unfolding ask leavesSlots accept deed changed
     list-done h e p x y = rw (x, y, p) (sym (step-done s (callMatch q m) (input-none h) (room-is ∙ rw e refl)))
 
 -- ---- names ----
 
 -- Over 64 starting bindings are over 64 names.
-pub start-many : (s : Stores) (m : Request) → 64 < length (m .bindings) / 5 → 64 < length (allNames s m)
+pub start-many : (s : Store) (m : Request) → nameLimit < length (m .bindings) / 5 → nameLimit < length (allNames s m)
 unfolding records count
 start-many s m h =
     let (u, e) = names-grow (patternOf s m) (startNames s m) in
@@ -97,43 +99,27 @@ start-many s m h =
 
 -- ---- settling ----
 
--- Whether an answer shows a run.
-shown : Answer → ℕ
-shown (refused n) = 0
-shown (built f) = 0
-shown (truth b) = 0
-shown (inStore r) = 1
-shown (inWork n) = 0
-shown (listed n c k) = 0
-
--- The run that an answer shows.
-runShown : Answer → Run
-runShown (refused n) = noRun
-runShown (built f) = noRun
-runShown (truth b) = noRun
-runShown (inStore r) = r
-runShown (inWork n) = noRun
-runShown (listed n c k) = noRun
-
 no-run : {n : ℕ} {r : Run} → refused n ≡ inStore r → ⊥
-unfolding shown
-no-run p = let z : _≡_ {A = ℕ} 0 1 = ap shown p in omega arith
+no-run p = let z : _≡_ {A = ℕ} 0 1 = cc in omega arith
+
+same-run : {x r : Run} → inStore x ≡ inStore r → x ≡ r
+same-run p = cc
 
 module _ (w : List ℕ) (used : ℕ) (new : List Term) (r : Run) where
-  full-by : (b : Bool) {n : ℕ} {v : List ℕ} {u : ℕ} → (refused n, v, u) ≡ settledIf b w used new r → (b ≡ false) × (n ≡ 13) × (v ≡ w) × (u ≡ used)
+  full-by : (b : Bool) {n : ℕ} {v : List ℕ} {u : ℕ} → (refused n, v, u) ≡ settledIf b w used new r → (b ≡ false) × (n ≡ termsFull) × (v ≡ w) × (u ≡ used)
   unfolding settledIf answerNumber
   full-by true e = absurd (no-run (ap (λ t. t .0) e))
   full-by false e = (refl, ap (λ t. answerNumber (t .0)) e, ap (λ t. t .1) e, ap (λ t. t .2) e)
 
   pub settled-full : {n : ℕ} {v : List ℕ} {u : ℕ} → (refused n, v, u) ≡ settledBy w used new r
-      → (leb (used + length new) (capacity termLayout w) ≡ false) × (n ≡ 13) × (v ≡ w) × (u ≡ used)
+      → (leb (used + length new) (capacity termLayout w) ≡ false) × (n ≡ termsFull) × (v ≡ w) × (u ≡ used)
   unfolding settledBy
   settled-full e = full-by (leb (used + length new) (capacity termLayout w)) e
 
   done-by : (b : Bool) {x : Run} {v : List ℕ} {u : ℕ} → (inStore x, v, u) ≡ settledIf b w used new r
       → (b ≡ true) × (x ≡ r) × (v ≡ write termLayout w used new) × (u ≡ used + length new)
-  unfolding settledIf runShown
-  done-by true e = (refl, ap (λ t. runShown (t .0)) e, ap (λ t. t .1) e, ap (λ t. t .2) e)
+  unfolding settledIf
+  done-by true e = (refl, same-run (ap (λ t. t .0) e), ap (λ t. t .1) e, ap (λ t. t .2) e)
   done-by false e = absurd (no-run (ap (λ t. t .0) (sym e)))
 
   pub settled-done : {x : Run} {v : List ℕ} {u : ℕ} → (inStore x, v, u) ≡ settledBy w used new r
@@ -156,24 +142,24 @@ runs-in used more (r ∷ rs) h t =
     (omega (arith, run-facts used r x), runs-in used more rs h y)
 
 -- What the checks 1 to 9 let pass, and what settling left.
-pub record Settled (s : Stores) (m : Request) (entries : ℕ) (numbers : List ℕ) (run : Run) (words : List ℕ) (used : ℕ) : Type 0 where
+pub record Settled (s : Store) (m : Request) (entries : ℕ) (numbers : List ℕ) (run : Run) (words : List ℕ) (used : ℕ) : Type 0 where
   pub values : TermStore (s .names) (s .termWords) (s .termsUsed)
-  pub store : Store (s .nodeWords) (s .termsUsed) (s .nodesUsed)
+  pub store : NodeStore (s .nodeWords) (s .termsUsed) (s .nodesUsed)
   pub low : (m .field) .node < s .nodesUsed
   pub within : (m .field) .len ≤ (nodeAt (nodesIn (s .nodeWords) (s .nodesUsed)) ((m .field) .node)) .reach
   pub runs-ok : T (runsRule (s .termsUsed) (startRuns m))
   pub pattern-ok : T (patternRule (s .names) (items m))
   pub short : length (m .pattern) ≤ 1027
   pub counted : entries ≡ length (allNames s m)
-  pub few : entries ≤ 64
+  pub few : entries ≤ nameLimit
   pub numbered : take (count itemLayout (m .pattern)) numbers ≡ numbersOf (patternOf s m) (startNames s m)
-  pub many : 256 ≤ length numbers
+  pub many : patternLimit ≤ length numbers
   pub fits : leb (s .termsUsed + length (fieldCopy s (m .field))) (capacity termLayout (s .termWords)) ≡ true
   pub run-is : run ≡ settledRun (terms s) (nodes s) (m .field)
   pub words-are : words ≡ write termLayout (s .termWords) (s .termsUsed) (fieldCopy s (m .field))
   pub used-is : used ≡ s .termsUsed + length (fieldCopy s (m .field))
 
-module _ (s : Stores) (m : Request) (entries : ℕ) (numbers : List ℕ) (run : Run) (words : List ℕ) (used : ℕ) (o : Settled s m entries numbers run words used) where
+module _ (s : Store) (m : Request) (entries : ℕ) (numbers : List ℕ) (run : Run) (words : List ℕ) (used : ℕ) (o : Settled s m entries numbers run words used) where
   size-terms : length (terms s) ≡ s .termsUsed
   unfolding terms
   size-terms = decode-length termLayout (s .termsUsed) (s .termWords)
@@ -193,9 +179,9 @@ module _ (s : Stores) (m : Request) (entries : ℕ) (numbers : List ℕ) (run : 
   used-size : length (terms s ++ fieldCopy s (m .field)) ≡ used
   used-size = length-append (terms s) (fieldCopy s (m .field)) ∙ omega (arith, size-terms, o .used-is)
 
-  room-terms : (used ≤ 65536) × (used * 4 ≤ length (s .termWords))
+  room-terms : (used ≤ limit) × Lies termLayout (s .termWords) used
   unfolding capacity count
-  room-terms = let h : s .termsUsed + length (fieldCopy s (m .field)) ≤ min (length (s .termWords) / 4) 65536 = leb-true _ _ (o .fits) in (omega (arith, o .used-is), omega (arith, o .used-is))
+  room-terms = let h : s .termsUsed + length (fieldCopy s (m .field)) ≤ min (length (s .termWords) / 4) limit = leb-true _ _ (o .fits) in (omega (arith, o .used-is), omega (arith, o .used-is))
 
   words-size : length words ≡ length (s .termWords)
   words-size = ap length (o .words-are) ∙ write-length termLayout term-lays (s .termWords) (s .termsUsed) (fieldCopy s (m .field)) (omega (arith, room-terms .1, o .used-is))
@@ -224,21 +210,17 @@ module _ (s : Stores) (m : Request) (entries : ℕ) (numbers : List ℕ) (run : 
       sound = rw (pattern-is, o .counted, start-size) (pattern-sound (s .names) (items m) (startNames s m) (o .pattern-ok));
     }
 
-    pub ready-start : (st : Place) → levelsOf st ≡ run ∷ [] → entriesOf st ≡ startRuns m → 66 ≤ length (st .levels) → 128 ≤ length (st .binds)
-        → Ready (s .names) words used (m .pattern) numbers 0 entries st (slotsIn (length slots) entries) slots
+    pub ready-start : ReadyToStart (givenOf (s .names) words used (m .pattern) numbers) entries run (startRuns m)
     unfolding count
     ready-start st el ee rl rb = record {
       store = store-after;
       few = room-terms .0;
-      rule = o .pattern-ok;
-      short = o .short;
-      numbered = omega (arith, o .short, o .many);
+      pattern = record { rule = o .pattern-ok; short = omega (arith, o .short); numbered = omega (arith, o .short, o .many) };
       here = omega arith;
       stays = stays-at;
       names-few = o .few;
       level-room = rl;
       entry-room = rb;
-      room = room-for (length slots) entries;
     }
       where
         at : List Run → List Run → Type 0
@@ -248,18 +230,21 @@ module _ (s : Stores) (m : Request) (entries : ℕ) (numbers : List ℕ) (run : 
         stays-at : Stays used (patternIn (s .names) (m .pattern) numbers) entries (levelOf st) (stackOf (st .depth) (st .levels)) (entriesOf st)
         stays-at = subst (λ env. at (levelsOf st) env) (sym ee) (subst (λ ls. at ls (startRuns m)) (sym el) start-stays)
 
+    -- as many slots as fit whole
+    pub slots-start : (head : Bool) → SlotsReady (record { entries = entries; cap = slotsIn (length slots) entries; head = head }) noTally slots
+    slots-start head = record { room = room-for (length slots) entries; most = omega arith; goes = refl }
+
     -- ---- the walk's end ----
 
     module _ (q : Wanted) (f : Tally) (after : List ℕ)
         (walked : progressOf entries f after
-        ≡ absorb q (slotsIn (length slots) entries) (walk (runs (s .names) (decode termLayout used words)) (drop 0 (patternIn (s .names) (m .pattern) numbers)) (run ∷ []) (startRuns m))
-        (progressOf entries (record { stop = 0; count = 0 }) slots))
+        ≡ absorb q (slotsIn (length slots) entries) (eventsAt (givenOf (s .names) words used (m .pattern) numbers) run (startRuns m)) (progressOf entries noTally slots))
         (lent : slots ≡ m .slots) where
       pub walked-is : progressOf entries f after ≡ matchProgress s q m
       unfolding matchProgress matchEvents readSlots statusOf
       walked-is = walked ∙ rw (terms-after, pattern-is, o .run-is, o .counted, lent) refl
 
-      pub filled-is : Filled entries (slotsIn (length slots) entries) (record { stop = 0; count = 0 }) f slots after → length after ≡ length slots
+      pub filled-is : Filled entries (slotsIn (length slots) entries) noTally f slots after → length after ≡ length slots
           → after ≡ fillSlots (m .slots) ((progressOf entries f after) .written)
       filled-is k e =
           slots-filled entries (f .count) slots after (omega (arith, e, room-for (length slots) entries, mul-le-mul-right (entries * 2) (k .most))) (k .rest)
@@ -268,9 +253,9 @@ module _ (s : Stores) (m : Request) (entries : ℕ) (numbers : List ℕ) (run : 
 -- ---- from the code's answers ----
 
 -- what the numbering of names, and settling, say
-pub settled-from : (s : Stores) (m : Request) (entries : ℕ) (numbers : List ℕ) (run : Run) (words : List ℕ) (used : ℕ) (z : Answer)
+pub settled-from : (s : Store) (m : Request) (entries : ℕ) (numbers : List ℕ) (run : Run) (words : List ℕ) (used : ℕ) (z : Answer)
     → Within8 s (m .field) (m .pattern) (m .bindings) → entries ≡ min 65 (length (allNames s m))
-    → (entries ≤ 64 → take (count itemLayout (m .pattern)) numbers ≡ numbersOf (patternOf s m) (startNames s m)) → entries ≤ 64 → 256 ≤ length numbers
+    → (entries ≤ nameLimit → take (count itemLayout (m .pattern)) numbers ≡ numbersOf (patternOf s m) (startNames s m)) → entries ≤ nameLimit → patternLimit ≤ length numbers
     → (z, words, used)
     ≡ settledBy (s .termWords) (s .termsUsed) (copy (decode termLayout (s .termsUsed) (s .termWords)) (nodesIn (s .nodeWords) (s .nodesUsed)) (m .field))
     (settledRun (decode termLayout (s .termsUsed) (s .termWords)) (nodesIn (s .nodeWords) (s .nodesUsed)) (m .field))
@@ -297,7 +282,7 @@ settled-from s m entries numbers run words used z y c n few many e q =
     }
 
 -- the exits of `list`
-module _ (s : Stores) (q : Wanted) (m : Request) {n : ℕ} (e : n ≡ numbered (refusedTo8 s (m .field) (m .pattern) (m .bindings))) where
+module _ (s : Store) (q : Wanted) (m : Request) {n : ℕ} (e : n ≡ numbered (refusedTo8 s (m .field) (m .pattern) (m .bindings))) where
   pub exit-refused : (n ≡ 0 → ⊥) → leavesSlots (refused n) s (m .slots) ≡ step s (callMatch q m)
   exit-refused h = list-refused s q m (to8-refused s (m .field) (m .pattern) (m .bindings) _ e h)
 
@@ -305,13 +290,13 @@ module _ (s : Stores) (q : Wanted) (m : Request) {n : ℕ} (e : n ≡ numbered (
     pass : (x : Option ℕ) → asksTo8 s (m .field) (m .pattern) (m .bindings) x ≡ x
     pass x = to8-passed s (m .field) (m .pattern) (m .bindings) x e z
 
-    pub exit-start : 64 < length (m .bindings) / 5 → leavesSlots (refused 9) s (m .slots) ≡ step s (callMatch q m)
+    pub exit-start : nameLimit < length (m .bindings) / 5 → leavesSlots (refused tooManyNames) s (m .slots) ≡ step s (callMatch q m)
     exit-start h = list-names s q m pass (start-many s m h)
 
-    pub exit-names : {k : ℕ} → k ≡ min 65 (length (allNames s m)) → 64 < k → leavesSlots (refused 9) s (m .slots) ≡ step s (callMatch q m)
+    pub exit-names : {k : ℕ} → k ≡ min 65 (length (allNames s m)) → nameLimit < k → leavesSlots (refused tooManyNames) s (m .slots) ≡ step s (callMatch q m)
     exit-names c h = list-names s q m pass (omega arith)
 
-    pub exit-full : {k : ℕ} → k ≡ min 65 (length (allNames s m)) → k ≤ 64 → (a : Answer) (x : ℕ) (words : List ℕ) (used : ℕ)
+    pub exit-full : {k : ℕ} → k ≡ min 65 (length (allNames s m)) → k ≤ nameLimit → (a : Answer) (x : ℕ) (words : List ℕ) (used : ℕ)
         → (a, words, used)
         ≡ settledBy (s .termWords) (s .termsUsed) (copy (decode termLayout (s .termsUsed) (s .termWords)) (nodesIn (s .nodeWords) (s .nodesUsed)) (m .field))
         (settledRun (decode termLayout (s .termsUsed) (s .termWords)) (nodesIn (s .nodeWords) (s .nodesUsed)) (m .field))
@@ -323,18 +308,17 @@ module _ (s : Stores) (q : Wanted) (m : Request) {n : ℕ} (e : n ≡ numbered (
 
     module _ (entries : ℕ) (numbers : List ℕ) (run : Run) (words : List ℕ) (used : ℕ) (o : Settled s m entries numbers run words used) (slots : List ℕ)
         (lent : slots ≡ m .slots) where
-      pub exit-done : (f : Tally) (after : List ℕ) {cap : ℕ} → cap ≡ slotsIn (length slots) entries
-          → (progressOf entries f after
-          ≡ absorb q cap (walk (runs (s .names) (decode termLayout used words)) (drop 0 (patternIn (s .names) (m .pattern) numbers)) (run ∷ []) (startRuns m))
-          (progressOf entries (record { stop = 0; count = 0 }) slots))
-          × Filled entries cap (record { stop = 0; count = 0 }) f slots after → length after ≡ length slots → {a : Answer}
+      pub exit-done : (f : Tally) (after : List ℕ) {cap : ℕ} {head : Bool} → cap ≡ slotsIn (length slots) entries → q ≡ wantedOf head
+          → Written (record { entries = entries; cap = cap; head = head }) (eventsAt (givenOf (s .names) words used (m .pattern) numbers) run (startRuns m)) noTally f slots after
+          → length after ≡ length slots → {a : Answer}
           → ((w : List (List Run)) → length w ≡ f .count → a ≡ matchAnswer (numberOf (statusOf (f .stop)) w) (f .count) entries)
           → leavesSlots a (storeOf (s .names) words used (s .nodeWords) (s .nodesUsed)) after ≡ step s (callMatch q m)
       unfolding addTerms
-      exit-done f after ec (g, k) len ans =
-          let w = walked-is s m entries numbers run words used o slots q f after (rw ec at g) lent in
+      exit-done f after ec eq h len ans =
+          let g = rw (ec, ← eq) at (h .taken) in
+          let w = walked-is s m entries numbers run words used o slots q f after g lent in
           let c = candidates-length entries (f .count) after in
           rw (o .words-are, o .used-is)
           (list-done s q m pass (omega (arith, o .counted, o .few)) (o .fits) w
           (ans (candidatesIn entries (f .count) after) c ∙ rw (c, o .counted) refl)
-          (filled-is s m entries numbers run words used o slots q f after (rw ec at g) lent (rw ec at k) len))
+          (filled-is s m entries numbers run words used o slots q f after g lent (rw ec at (h .filled)) len))

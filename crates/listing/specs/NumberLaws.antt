@@ -13,7 +13,7 @@ use Rattle.match_spec.specs.Pattern.{Item, noItem, Name, find, add, namesAfter,
 use Rattle.match_spec.specs.NameLaws.{find-le, add-length}
 use Rattle.pattern.specs.Records.{numbersOf}
 use Rattle.steps.specs.State.{renamed, coded, codedAll}
-use Rattle.steps.specs.TurnLaws.{Sound}
+use Rattle.steps.specs.Stays.{Sound}
 
 -- ---- by number ----
 

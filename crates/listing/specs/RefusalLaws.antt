@@ -10,17 +10,17 @@ use Prim.Native.Nat.{ℕ, suc, _/_, _%_, _<_, _≤_}
 use native.Mathlib.Omega.{arith}
 use Rattle.term_spec.specs.BoolLaws.{true-T}
 use Rattle.term_spec.specs.Words.{whole, count, records}
-use Rattle.term_spec.specs.Term.{runsRule}
+use Rattle.term_spec.specs.Term.{limit, runsRule}
 use Rattle.view_spec.specs.Node.{Field, emptyField, nodeAt, fieldRule}
-use Rattle.match_spec.specs.Pattern.{itemLayout, bindingLayout, boundRun, patternRule, bindingsRule}
-use Rattle.calls_spec.specs.Store.{Store as Stores, nodes, countsRule, storeTerms, storeNodes}
+use Rattle.match_spec.specs.Pattern.{itemLayout, bindingLayout, boundRun, patternRule, bindingsRule, patternLimit}
+use Rattle.calls_spec.specs.Store.{Store, nodes, countsRule, storeTerms, storeNodes}
 use Rattle.calls_spec.specs.Step.{ask}
-use Rattle.nodes.specs.Store.{nodesIn, Store}
-use Rattle.value.specs.Equal.{Store as TermStore}
+use Rattle.nodes.specs.NodeStore.{nodesIn, NodeStore}
+use Rattle.value.specs.Equal.{TermStore}
 use Rattle.view.specs.Check.{numbered, checked}
 use Rattle.view.specs.CheckLaws.{nonzero, and-left, and-right}
 use Rattle.view.specs.StepLaws.{one-field, usable}
-use Rattle.listing.specs.Match.{asksTo8, refusedTo8}
+use Rattle.listing.specs.Match.{evenWords, asksTo8, refusedTo8}
 
 -- ---- checks in a row ----
 
@@ -54,53 +54,49 @@ asks-passed (t ∷ l) x h = rw (h .0) (asks-passed l x (h .1))
 
 -- ---- 1, of pattern and bindings ----
 
--- Pattern and bindings are whole, and the pattern's records are at most 256.
-abbrev evenOf : List ℕ → List ℕ → Bool
-evenOf p b = whole itemLayout p && leb (count itemLayout p) 256 && whole bindingLayout b
-
 module _ (p b : List ℕ) where
-  pub even-uneven : (length p % 4 ≡ 0 → ⊥) → false ≡ evenOf p b
+  pub even-uneven : (length p % 4 ≡ 0 → ⊥) → false ≡ evenWords p b
   unfolding whole
   even-uneven h = simp (ne-eqb _ _ h)
 
-  pub even-many : length p % 4 ≡ 0 → 256 < length p / 4 → false ≡ evenOf p b
+  pub even-many : length p % 4 ≡ 0 → patternLimit < length p / 4 → false ≡ evenWords p b
   unfolding whole count
   even-many e h = simp (eq-eqb _ _ e, lt-leb _ _ h)
 
-  pub even-rest : length p % 4 ≡ 0 → length p / 4 ≤ 256 → eqb (length b % 5) 0 ≡ evenOf p b
+  pub even-rest : length p % 4 ≡ 0 → length p / 4 ≤ patternLimit → eqb (length b % 5) 0 ≡ evenWords p b
   unfolding whole count
   even-rest e h = simp (eq-eqb _ _ e, le-leb _ _ h)
 
   -- A pattern in even records is short.
-  pub even-short : evenOf p b ≡ true → length p ≤ 1027
+  pub even-short : evenWords p b ≡ true → length p ≤ 1027
   unfolding count
   even-short e =
-      let h : length p / 4 ≤ 256 = leb-true _ _ (and-right (whole itemLayout p) _ (and-left (whole itemLayout p && leb (count itemLayout p) 256) (whole bindingLayout b) e)) in
+      let h : length p / 4 ≤ patternLimit = leb-true _ _ (and-right (whole itemLayout p) _ (and-left (whole itemLayout p && leb (count itemLayout p) 256) (whole bindingLayout b) e)) in
       omega arith
 
 -- ---- 1 to 8 ----
 
 -- The tests 5, 7 and 8.
-abbrev inside : Stores → List ℕ → Bool
+abbrev inside : Store → List ℕ → Bool
 inside s b = runsRule (s .termsUsed) (map boundRun (records bindingLayout b))
 
-abbrev patterned : Stores → List ℕ → Bool
+abbrev patterned : Store → List ℕ → Bool
 patterned s p = patternRule (s .names) (records itemLayout p)
 
-abbrev bound : Stores → List ℕ → Bool
+abbrev bound : Store → List ℕ → Bool
 bound s b = bindingsRule (s .names) (records bindingLayout b) []
 
 -- The tests 1 to 4, and all of them.
-abbrev tests4 : Stores → Field → List ℕ → List ℕ → List (Bool × ℕ)
-tests4 s f p b = (countsRule s && evenOf p b, 0) ∷ (storeTerms s, 1) ∷ (storeNodes s, 2) ∷ (fieldRule (nodes s) f, 3) ∷ []
+abbrev tests4 : Store → Field → List ℕ → List ℕ → List (Bool × ℕ)
+tests4 s f p b = (countsRule s && evenWords p b, 0) ∷ (storeTerms s, 1) ∷ (storeNodes s, 2) ∷ (fieldRule (nodes s) f, 3) ∷ []
 
-abbrev tests8 : Stores → Field → List ℕ → List ℕ → List (Bool × ℕ)
+abbrev tests8 : Store → Field → List ℕ → List ℕ → List (Bool × ℕ)
 tests8 s f p b = tests4 s f p b ++ ((inside s b, 4) ∷ (patterned s p, 6) ∷ (bound s b, 7) ∷ [])
 
 -- What the checks 1 to 8 let pass.
-pub record Within8 (s : Stores) (f : Field) (p b : List ℕ) : Type 0 where
-  pub store : Store (s .nodeWords) (s .termsUsed) (s .nodesUsed)
-  pub terms : s .termsUsed ≤ 65536
+pub record Within8 (s : Store) (f : Field) (p b : List ℕ) : Type 0 where
+  pub store : NodeStore (s .nodeWords) (s .termsUsed) (s .nodesUsed)
+  pub terms : s .termsUsed ≤ limit
   pub values : TermStore (s .names) (s .termWords) (s .termsUsed)
   pub low : f .node < s .nodesUsed
   pub within : f .len ≤ (nodeAt (nodesIn (s .nodeWords) (s .nodesUsed)) (f .node)) .reach
@@ -109,7 +105,7 @@ pub record Within8 (s : Stores) (f : Field) (p b : List ℕ) : Type 0 where
   pub bindings : T (bindingsRule (s .names) (records bindingLayout b) [])
   pub short : length p ≤ 1027
 
-module _ (s : Stores) (f : Field) (p b : List ℕ) where
+module _ (s : Store) (f : Field) (p b : List ℕ) where
   in-a-row : (x : Option ℕ) → asksTo8 s f p b x ≡ asks (tests8 s f p b) x
   unfolding asksTo8 asks
   in-a-row x = refl
@@ -123,10 +119,20 @@ module _ (s : Stores) (f : Field) (p b : List ℕ) where
   unfolding Hold asks numbered
   within-8 e z =
       let (h1, (h2, (h3, (h4, (h5, (h7, (h8, u))))))) = asks-hold (tests8 s f p b) (row e) z in
-      let q : 0 ≡ numbered (checked s (evenOf p b) f emptyField) =
-      sym (ap numbered (one-field s (evenOf p b) f ∙ asks-passed (tests4 s f p b) none (h1, (h2, (h3, (h4, tt)))))) in
-      let m = usable s (evenOf p b) f q refl in
-      record { store = m .store; terms = m .terms; values = m .values; low = m .low; within = m .within; runs = true-T _ h5; pattern = true-T _ h7; bindings = true-T _ h8; short = even-short p b (and-right (countsRule s) (evenOf p b) h1) }
+      let q : 0 ≡ numbered (checked s (evenWords p b) f emptyField) =
+      sym (ap numbered (one-field s (evenWords p b) f ∙ asks-passed (tests4 s f p b) none (h1, (h2, (h3, (h4, tt)))))) in
+      let m = usable s (evenWords p b) f q refl in
+      record {
+        store = m .store;
+        terms = m .terms;
+        values = m .values;
+        low = m .low;
+        within = m .within;
+        runs = true-T _ h5;
+        pattern = true-T _ h7;
+        bindings = true-T _ h8;
+        short = even-short p b (and-right (countsRule s) (evenWords p b) h1);
+      }
 
   module _ (x : Option ℕ) {n : ℕ} (e : n ≡ numbered (refusedTo8 s f p b)) where
     pub to8-refused : (n ≡ 0 → ⊥) → asksTo8 s f p b x ≡ some n
@@ -136,7 +142,7 @@ module _ (s : Stores) (f : Field) (p b : List ℕ) where
     to8-passed z = in-a-row x ∙ asks-passed (tests8 s f p b) x (asks-hold (tests8 s f p b) (row e) z)
 
   -- by the number of the first four, with the test of pattern and bindings as it was made
-  module _ {even : Bool} (ev : even ≡ evenOf p b) {n : ℕ} (e : n ≡ numbered (checked s even f emptyField)) where
+  module _ {even : Bool} (ev : even ≡ evenWords p b) {n : ℕ} (e : n ≡ numbered (checked s even f emptyField)) where
     four : n ≡ numbered (asks (tests4 s f p b) none)
     unfolding asks
     four = e ∙ ap numbered (one-field s even f ∙ rw ev refl)
@@ -147,7 +153,7 @@ module _ (s : Stores) (f : Field) (p b : List ℕ) where
 
     pub refusal-short : n ≡ 0 → length p ≤ 1027
     unfolding Hold
-    refusal-short z = even-short p b (and-right (countsRule s) (evenOf p b) (asks-hold (tests4 s f p b) four z .0))
+    refusal-short z = even-short p b (and-right (countsRule s) (evenWords p b) (asks-hold (tests4 s f p b) four z .0))
 
     pub refusal-later : n ≡ 0 → {r q t : Bool} → r ≡ inside s b → q ≡ patterned s p → t ≡ bound s b
         → numbered (ask r 5 (ask q 7 (ask t 8 none))) ≡ numbered (refusedTo8 s f p b)

@@ -8,18 +8,21 @@ use native.Mathlib.Omega.{arith}
 use Rattle.term_spec.specs.Words.{decode, recordAt, count, records}
 use Rattle.term_spec.specs.WordsLaws.{decode-snoc}
 use Rattle.term_spec.specs.Term.{Run, runLayout}
-use Rattle.match_spec.specs.Pattern.{bindingLayout, boundRun}
+use Rattle.match_spec.specs.Pattern.{bindingLayout, boundRun, nameLimit}
+use Rattle.match_spec.specs.Walk.{walk}
 use Rattle.items.specs.ItemLaws.{binding-read}
-use Rattle.steps.specs.State.{Place, stackOf, levelOf, levelsOf, entriesOf}
+use Rattle.steps.specs.State.{Place, stackOf, levelOf, levelsOf, entriesOf, EntryRoom}
 use Rattle.steps.specs.ArrayLaws.{entries-more}
+use Rattle.matcher.specs.Ready.{Given, readingOf, patternFrom, eventsFrom}
+use Rattle.listing.specs.Match.{eventsAt}
 
 -- The runs of the first i bindings are the first i entries.
 pub record Copied (bindings binds : List ℕ) (i : ℕ) : Type 0 where
   pub below : i ≤ length bindings / 5
-  pub room : 128 ≤ length binds
+  pub room : EntryRoom binds
   pub same : decode runLayout i binds ≡ map boundRun (decode bindingLayout i bindings)
 
-pub copied-none : (bindings binds : List ℕ) → 128 ≤ length binds → Copied bindings binds 0
+pub copied-none : (bindings binds : List ℕ) → EntryRoom binds → Copied bindings binds 0
 unfolding decode
 copied-none bindings binds h = record { below = omega arith; room = h; same = refl }
 
@@ -30,7 +33,7 @@ bound-read w i =
     rw e (ap boundRun (binding-read w i refl refl refl refl refl))
 
 module _ (bindings binds : List ℕ) (i : ℕ) (c : Copied bindings binds i) where
-  pub copied-more : i < length bindings / 5 → length bindings ≤ 324
+  pub copied-more : i < length bindings / 5 → length bindings < (nameLimit + 1) * bindingLayout .width
       → Copied bindings (set (set binds (2 * i) (getD bindings (5 * i + 3) 0)) (2 * i + 1) (getD bindings (5 * i + 4) 0)) (i + 1)
   copied-more h few = record {
     below = omega arith;
@@ -55,3 +58,7 @@ pub start-entries : (bindings : List ℕ) (st : Place) → st .bound ≡ length 
     → decode runLayout (count bindingLayout bindings) (st .binds) ≡ map boundRun (records bindingLayout bindings) → entriesOf st ≡ map boundRun (records bindingLayout bindings)
 unfolding count
 start-entries bindings st e h = ap (λ n. decode runLayout n (st .binds)) e ∙ h
+
+-- The events of the walk from there.
+pub start-events : (v : Given) (st : Place) {r : Run} {start : List Run} → levelsOf st ≡ r ∷ [] → entriesOf st ≡ start → eventsAt v r start ≡ eventsFrom v 0 st
+start-events v st el ee = ap₂ (walk (readingOf v) (patternFrom v 0)) (sym el) (sym ee)

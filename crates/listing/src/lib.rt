@@ -1,27 +1,27 @@
 // Listing and first match as calls: the checks, the settled field, the walk, the answer. From matcher.rs
 // (`match_pattern_with_bindings_candidates`, `match_pattern_first`); refusals but 10 and 11 are the port's.
+use matcher::Goal;
 use matcher::Tally;
+use matcher::status;
 use steps::State;
 use view::Field;
 use view_read::Settled;
 use words::Run;
+use words::refusal;
 ghost use mathlib.Core.Path.{_≡_};
-ghost use mathlib.Core.List.{List, [], _∷_, map};
-ghost use mathlib.Core.Bool.{_&&_};
-ghost use Prim.Native.Nat.{_+_, _≤_};
-ghost use lib.Dec.{leb};
-ghost use lib.ListN.{length, drop};
-ghost use Rattle.term_spec.specs.Words.{decode, whole, count, records};
-ghost use Rattle.term_spec.specs.Term.{Run as SpecRun, termLayout};
-ghost use Rattle.match_spec.specs.Pattern.{itemLayout, bindingLayout, boundRun};
-ghost use Rattle.match_spec.specs.Walk.{runs, walk as walkOf};
-ghost use Rattle.match_spec.specs.Answer.{allOfThem, headOnly, slotsIn, numberOf, absorb};
+ghost use mathlib.Core.List.{List, map};
+ghost use Prim.Native.Nat.{_+_, _*_, _<_, _≤_};
+ghost use lib.ListN.{length};
+ghost use Rattle.term_spec.specs.Words.{count, records};
+ghost use Rattle.term_spec.specs.Term.{Run as SpecRun};
+ghost use Rattle.match_spec.specs.Pattern.{bindingLayout, boundRun, nameLimit};
+ghost use Rattle.match_spec.specs.Answer.{allOfThem, headOnly, slotsIn, numberOf};
 ghost use Rattle.calls_spec.specs.Step.{callMatch, step, matchAnswer, nameCount};
 ghost use Rattle.view.specs.Check.{asField, storeOf, numbered};
 ghost use Rattle.words.specs.Records.{asRun};
-ghost use Rattle.steps.specs.State.{Place, levelsOf, entriesOf, entriesIn};
-ghost use Rattle.matcher.specs.Ready.{patternIn, statusOf, wantedOf, progressOf, Ready, Filled};
-ghost use Rattle.listing.specs.Match.{matchedOf, leavesSlots, requestOf, refusedTo8};
+ghost use Rattle.steps.specs.State.{entriesIn, EntryRoom};
+ghost use Rattle.matcher.specs.Ready.{givenOf, statusOf, wantedOf, SlotsReady, Written};
+ghost use Rattle.listing.specs.Match.{matchedOf, leavesSlots, requestOf, evenWords, refusedTo8, noTally, ReadyToStart, eventsAt};
 
 // What a listing answers: all candidates, with their count and the number of names; the slots are full and a further candidate exists; a
 // refusal.
@@ -33,12 +33,12 @@ pub enum Matched {
 
 // 1 Uneven, of pattern and bindings: whole, and at most 256 pattern records.
 fn request_even(pattern: &[u32], bindings: &[u32]) -> bool
-    ensures { λ r. ⌜ r ≡ whole itemLayout (now (pattern .entry)) && leb (count itemLayout (now (pattern .entry))) 256 && whole bindingLayout (now (bindings .entry)) ⌝ }
+    ensures { λ r. ⌜ r ≡ evenWords (now (pattern .entry)) (now (bindings .entry)) ⌝ }
 {
     if pattern.len() % items::ITEM_WIDTH != 0 {
         return false;
     }
-    if 256 < pattern.len() / items::ITEM_WIDTH {
+    if items::PATTERN_LIMIT < pattern.len() / items::ITEM_WIDTH {
         return false;
     }
     bindings.len() % items::BINDING_WIDTH == 0
@@ -55,7 +55,9 @@ fn refusal(
     pattern: &[u32],
     bindings: &[u32],
 ) -> usize
-    ensures { λ r. ⌜ r ≡ numbered (refusedTo8 (storeOf (now (names .entry)) (now (terms .entry)) «terms_used» (now (nodes .entry)) «nodes_used») (asField f) (now (pattern .entry)) (now (bindings .entry))) ⌝ }
+    ensures { λ r.
+        let before = storeOf (now (names .entry)) (now (terms .entry)) «terms_used» (now (nodes .entry)) «nodes_used» in
+        ⌜ r ≡ numbered (refusedTo8 before (asField f) (now (pattern .entry)) (now (bindings .entry))) ⌝ }
 {
     let number = view::check(
         names,
@@ -71,13 +73,13 @@ fn refusal(
         return number;
     }
     if !pattern::bindings_inside(bindings, terms_used) {
-        return 5;
+        return refusal::PAST_END;
     }
     if !pattern::pattern_ok(names, pattern) {
-        return 7;
+        return refusal::BAD_PATTERN;
     }
     if !pattern::bindings_ok(names, bindings) {
-        return 8;
+        return refusal::BAD_BINDING;
     }
     0
 }
@@ -96,12 +98,12 @@ pub fn name_count(names: &[u8], pattern: &[u32], bindings: &[u32]) -> usize
         return 0;
     }
     let given = bindings.len() / items::BINDING_WIDTH;
-    if 64 < given {
+    if items::NAME_LIMIT < given {
         return 0;
     }
-    let mut numbers = [0u32; 256];
+    let mut numbers = [0u32; items::PATTERN_LIMIT];
     let found = pattern::number_names(names, pattern, bindings, &mut numbers);
-    if 64 < found {
+    if items::NAME_LIMIT < found {
         return 0;
     }
     found
@@ -109,8 +111,10 @@ pub fn name_count(names: &[u8], pattern: &[u32], bindings: &[u32]) -> usize
 
 // The start's entries become the first runs of `binds`.
 fn start(bindings: &[u32], binds: &mut [u32])
-    requires { ⌜ (length (now bindings) ≤ 324) × (128 ≤ length (now binds)) ⌝ }
-    ensures { λ _. ⌜ entriesIn (count bindingLayout (now (bindings .entry))) (now (binds .exit)) ≡ map boundRun (records bindingLayout (now (bindings .entry))) ⌝ }
+    requires { ⌜ (length (now bindings) < (nameLimit + 1) * bindingLayout .width) × EntryRoom (now binds) ⌝ }
+    ensures { λ _.
+        let bindings = now (bindings .entry) in
+        ⌜ entriesIn (count bindingLayout bindings) (now (binds .exit)) ≡ map boundRun (records bindingLayout bindings) ⌝ }
 {
     let n = bindings.len() / items::BINDING_WIDTH;
     let mut i = 0;
@@ -128,16 +132,19 @@ fn walk_from(
     used: usize,
     pattern: &[u32],
     numbers: &[u32],
-    entries: usize,
     bindings: &[u32],
     run: Run,
-    cap: usize,
-    head: bool,
+    g: Goal,
     slots: &mut [u32],
 ) -> Tally
-    requires { ⌜ length (now bindings) ≤ 324 ⌝ }
-    requires { ⌜ ((st : Place) → levelsOf st ≡ asRun run ∷ [] → entriesOf st ≡ map boundRun (records bindingLayout (now bindings)) → 66 ≤ length (st .levels) → 128 ≤ length (st .binds) → Ready (now names) (now terms) used (now pattern) (now numbers) 0 entries st cap (now slots)) ⌝ }
-    ensures { λ r. ⌜ (progressOf entries r (now (slots .exit)) ≡ absorb (wantedOf head) cap (walkOf (runs (now (names .entry)) (decode termLayout used (now (terms .entry)))) (drop 0 (patternIn (now (names .entry)) (now (pattern .entry)) (now (numbers .entry)))) (asRun run ∷ []) (map boundRun (records bindingLayout (now (bindings .entry))))) (progressOf entries (record { stop = 0; count = 0 }) (now (slots .entry)))) × Filled entries cap (record { stop = 0; count = 0 }) r (now (slots .entry)) (now (slots .exit)) ⌝ }
+    requires { ⌜ length (now bindings) < (nameLimit + 1) * bindingLayout .width ⌝ }
+    requires { let given = givenOf (now names) (now terms) used (now pattern) (now numbers) in
+        let start = map boundRun (records bindingLayout (now bindings)) in
+        ⌜ ReadyToStart given (g .entries) (asRun run) start × SlotsReady g noTally (now slots) ⌝ }
+    ensures { λ r.
+        let given = givenOf (now (names .entry)) (now (terms .entry)) used (now (pattern .entry)) (now (numbers .entry)) in
+        let start = map boundRun (records bindingLayout (now (bindings .entry))) in
+        ⌜ Written g (eventsAt given (asRun run) start) noTally r (now (slots .entry)) (now (slots .exit)) ⌝ }
 {
     let mut levels = [0u32; steps::LEVEL_WORDS];
     let mut binds = [0u32; steps::ENTRY_WORDS];
@@ -148,7 +155,10 @@ fn walk_from(
         depth: 0,
         bound: bindings.len() / items::BINDING_WIDTH,
     };
-    let none = Tally { stop: 0, count: 0 };
+    let none = Tally {
+        stop: status::GOING,
+        count: 0,
+    };
     matcher::walk(
         names,
         terms,
@@ -156,14 +166,10 @@ fn walk_from(
         pattern,
         numbers,
         0,
-        entries,
         at,
         &mut levels,
         &mut binds,
-        cap,
-        head,
-        false,
-        0,
+        g,
         slots,
         none,
     )
@@ -171,7 +177,7 @@ fn walk_from(
 
 // The slots that fit whole; with no names there is one, of no words.
 fn slots_in(words: usize, names: usize) -> usize
-    requires { ⌜ names ≤ 64 ⌝ }
+    requires { ⌜ names ≤ nameLimit ⌝ }
     ensures { λ r. ⌜ r ≡ slotsIn words names ⌝ }
 {
     if names == 0 {
@@ -182,17 +188,19 @@ fn slots_in(words: usize, names: usize) -> usize
 
 // The answer of a walk that has ended.
 fn answer(t: Tally, names: usize) -> Matched
-    ensures { λ r. ⌜ ((w : List (List SpecRun)) → length w ≡ t .count → matchedOf r ≡ matchAnswer (numberOf (statusOf (t .stop)) w) (t .count) names) ⌝ }
+    ensures { λ r.
+        let status = statusOf (t .stop) in
+        ⌜ ((w : List (List SpecRun)) → length w ≡ t .count → matchedOf r ≡ matchAnswer (numberOf status w) (t .count) names) ⌝ }
 {
-    if t.stop == 2 {
+    if t.stop == status::FULL {
         return Matched::More(t.count, names);
     }
-    if 2 < t.stop {
-        return Matched::Refused(11);
+    if status::CALLED <= t.stop {
+        return Matched::Refused(refusal::CALLS_ARE_NOT_PATTERNS);
     }
-    if t.stop == 0 {
+    if t.stop == status::GOING {
         if t.count == 0 {
-            return Matched::Refused(10);
+            return Matched::Refused(refusal::NO_MATCH);
         }
     }
     Matched::Listed(t.count, names)
@@ -211,7 +219,11 @@ fn list(
     slots: &mut [u32],
     head: bool,
 ) -> Matched
-    ensures { λ r. ⌜ leavesSlots (matchedOf r) (storeOf (now (names .entry)) (now (terms .exit)) (now («terms_used» .exit)) (now (nodes .entry)) «nodes_used») (now (slots .exit)) ≡ step (storeOf (now (names .entry)) (now (terms .entry)) (now («terms_used» .entry)) (now (nodes .entry)) «nodes_used») (callMatch (wantedOf head) (requestOf (asField f) (now (pattern .entry)) (now (bindings .entry)) (now (slots .entry)))) ⌝ }
+    ensures { λ r.
+        let before = storeOf (now (names .entry)) (now (terms .entry)) (now («terms_used» .entry)) (now (nodes .entry)) «nodes_used» in
+        let after = storeOf (now (names .entry)) (now (terms .exit)) (now («terms_used» .exit)) (now (nodes .entry)) «nodes_used» in
+        let request = requestOf (asField f) (now (pattern .entry)) (now (bindings .entry)) (now (slots .entry)) in
+        ⌜ leavesSlots (matchedOf r) after (now (slots .exit)) ≡ step before (callMatch (wantedOf head) request) ⌝ }
 {
     let number = refusal(
         names,
@@ -226,29 +238,28 @@ fn list(
     if number != 0 {
         return Matched::Refused(number);
     }
-    if 64 < bindings.len() / items::BINDING_WIDTH {
-        return Matched::Refused(9);
+    if items::NAME_LIMIT < bindings.len() / items::BINDING_WIDTH {
+        return Matched::Refused(refusal::TOO_MANY_NAMES);
     }
-    let mut numbers = [0u32; 256];
+    let mut numbers = [0u32; items::PATTERN_LIMIT];
     let entries = pattern::number_names(names, pattern, bindings, &mut numbers);
-    if 64 < entries {
-        return Matched::Refused(9);
+    if items::NAME_LIMIT < entries {
+        return Matched::Refused(refusal::TOO_MANY_NAMES);
     }
     match view_read::settle(terms, terms_used, nodes, nodes_used, f) {
         Settled::Refused(n) => Matched::Refused(n),
         Settled::At(run) => {
             let cap = slots_in(slots.len(), entries);
+            let g = Goal { entries, cap, head };
             let tally = walk_from(
                 names,
                 terms,
                 *terms_used,
                 pattern,
                 &numbers,
-                entries,
                 bindings,
                 run,
-                cap,
-                head,
+                g,
                 slots,
             );
             answer(tally, entries)
@@ -268,7 +279,11 @@ pub fn match_pattern_with_bindings_candidates(
     bindings: &[u32],
     slots: &mut [u32],
 ) -> Matched
-    ensures { λ r. ⌜ leavesSlots (matchedOf r) (storeOf (now (names .entry)) (now (terms .exit)) (now («terms_used» .exit)) (now (nodes .entry)) «nodes_used») (now (slots .exit)) ≡ step (storeOf (now (names .entry)) (now (terms .entry)) (now («terms_used» .entry)) (now (nodes .entry)) «nodes_used») (callMatch allOfThem (requestOf (asField f) (now (pattern .entry)) (now (bindings .entry)) (now (slots .entry)))) ⌝ }
+    ensures { λ r.
+        let before = storeOf (now (names .entry)) (now (terms .entry)) (now («terms_used» .entry)) (now (nodes .entry)) «nodes_used» in
+        let after = storeOf (now (names .entry)) (now (terms .exit)) (now («terms_used» .exit)) (now (nodes .entry)) «nodes_used» in
+        let request = requestOf (asField f) (now (pattern .entry)) (now (bindings .entry)) (now (slots .entry)) in
+        ⌜ leavesSlots (matchedOf r) after (now (slots .exit)) ≡ step before (callMatch allOfThem request) ⌝ }
 {
     let head = false;
     list(
@@ -297,7 +312,11 @@ pub fn match_pattern_first(
     bindings: &[u32],
     slots: &mut [u32],
 ) -> Matched
-    ensures { λ r. ⌜ leavesSlots (matchedOf r) (storeOf (now (names .entry)) (now (terms .exit)) (now («terms_used» .exit)) (now (nodes .entry)) «nodes_used») (now (slots .exit)) ≡ step (storeOf (now (names .entry)) (now (terms .entry)) (now («terms_used» .entry)) (now (nodes .entry)) «nodes_used») (callMatch headOnly (requestOf (asField f) (now (pattern .entry)) (now (bindings .entry)) (now (slots .entry)))) ⌝ }
+    ensures { λ r.
+        let before = storeOf (now (names .entry)) (now (terms .entry)) (now («terms_used» .entry)) (now (nodes .entry)) «nodes_used» in
+        let after = storeOf (now (names .entry)) (now (terms .exit)) (now («terms_used» .exit)) (now (nodes .entry)) «nodes_used» in
+        let request = requestOf (asField f) (now (pattern .entry)) (now (bindings .entry)) (now (slots .entry)) in
+        ⌜ leavesSlots (matchedOf r) after (now (slots .exit)) ≡ step before (callMatch headOnly request) ⌝ }
 {
     let head = true;
     list(

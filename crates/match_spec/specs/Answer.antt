@@ -4,6 +4,7 @@ use mathlib.Core.List.{List, [], _∷_, _++_}
 use lib.ListN.{length}
 use Prim.Native.Nat.{ℕ, suc, zero, _/_, _*_}
 use native.Mathlib.Decide.{decLt}
+use Rattle.term_spec.specs.Refusal.{noMatch, callsAreNotPatterns, moreThanFit}
 use Rattle.match_spec.specs.Walk.{Event, hit, tried, reached}
 
 -- going: more events are taken in. done: first match has its head. full: a candidate came after the slots were filled. called: a Call or
@@ -55,8 +56,8 @@ slotsIn words (suc n) = words / (2 * suc n)
 
 -- 01's number of the answer: 10 if the list is empty, 11 if a call was reached, 15 if a further candidate exists, else 0.
 unfoldable pub numberOf : {E : Type 0} → Status → List E → ℕ
-numberOf going [] = 10
+numberOf going [] = noMatch
 numberOf going (x ∷ l) = 0
 numberOf done l = 0
-numberOf full l = 15
-numberOf called l = 11
+numberOf full l = moreThanFit
+numberOf called l = callsAreNotPatterns

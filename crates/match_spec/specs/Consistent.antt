@@ -1,4 +1,5 @@
--- Consistent extensions and their order, in 01's words ("Trying a pattern").
+-- Consistent extensions and their order, in 01's words ("Trying a pattern"; what a pattern matches is the Refal-5 manual's, sections 1.3, 2.2
+-- and 6.4, whose meaning is taken as 01 gives it; the order is matcher.rs's).
 use mathlib.Core.Path.{_≡_}
 use mathlib.Core.List.{List, [], _∷_, _++_, map, List·Memᴰ}
 use mathlib.Core.Logic.{_⊎_}

@@ -1,4 +1,5 @@
--- Patterns and starting bindings as records of words, their rules, and the names they have (01, "Records": Pattern, Binding).
+-- Patterns and starting bindings as records of words, their rules, and the names they have (01, "Records": Pattern, Binding; the kinds of
+-- variables, names and brackets are those of the Refal-5 manual, sections 1.3, 2.2 and 6.4, whose meaning is taken as 01 gives it).
 use mathlib.Core.List.{List, [], _∷_, _++_, map}
 use mathlib.Core.Bool.{Bool, true, false, _&&_}
 use lib.Dec.{leb, ltb, eqb}
@@ -7,7 +8,7 @@ use Prim.Native.Nat.{ℕ, suc, zero}
 use native.Mathlib.Decide.{ℕ-discrete, decLt}
 use Rattle.term_spec.specs.Words.{Layout}
 use Rattle.term_spec.specs.Text.{lower, textAt, textRule, variableText}
-use Rattle.term_spec.specs.Term.{Run, symbolRule}
+use Rattle.term_spec.specs.Term.{Run, symbolRule, charKind, identifierKind, numberKind}
 use Rattle.term_spec.specs.Value.{list?, char, ident, num, symbol, term}
 use Rattle.match_spec.specs.Element.{Element, lit, opening, closing, call, one, many}
 
@@ -29,6 +30,41 @@ itemLayout = record { width = 4; read = itemOf; words = λ t. t .kind ∷ t .a �
 -- What is read where there is no record; the rules keep it from being met.
 abbrev pub noItem : Item
 noItem = record { kind = 0; a = 0; b = 0; c = 0 }
+
+-- The kinds of pattern records that are no terms: "3 Open", "4 Close", "5 s-variable, 6 t-variable, 7 e-variable", "8 Call, 9 Block". Where a
+-- definition goes by kind, its clauses are in this order, after those of kinds 0 to 2.
+abbrev pub openKind : ℕ
+openKind = 3
+
+abbrev pub closeKind : ℕ
+closeKind = 4
+
+abbrev pub symbolVariableKind : ℕ
+symbolVariableKind = 5
+
+abbrev pub termVariableKind : ℕ
+termVariableKind = 6
+
+abbrev pub expressionVariableKind : ℕ
+expressionVariableKind = 7
+
+abbrev pub callKind : ℕ
+callKind = 8
+
+abbrev pub blockKind : ℕ
+blockKind = 9
+
+-- "at most 256 records".
+abbrev pub patternLimit : ℕ
+patternLimit = 256
+
+-- "Brackets nest at most 32 deep."
+abbrev pub nestingLimit : ℕ
+nestingLimit = 32
+
+-- "9 TooManyNames: start and pattern together name over 64."
+abbrev pub nameLimit : ℕ
+nameLimit = 64
 
 -- "Binding, five words: kind 5 to 7, name offset, name length, run start, run length."
 pub record Binding : Type 0 where
@@ -52,7 +88,7 @@ boundRun b = record { start = b .start; len = b .len }
 
 -- ---- names ----
 
--- "Two names are one when kind and text agree, ASCII case ignored": a name is its kind and its lowered text.
+-- "Two names are one when kind and text agree, ASCII case ignored" (01; the manual, section 2.2): a name is its kind and its lowered text.
 abbrev pub Name : Type 0
 Name = List ℕ
 
@@ -105,16 +141,17 @@ number (many x ∷ p) t = many (find x t) ∷ number p (add x t)
 
 -- ---- what a record means ----
 
--- "3 Open; 4 Close; 5 s-variable, 6 t-variable, 7 e-variable, a and b their name; 8 Call, 9 Block." A Call or Block names nothing.
+-- "3 Open, a is its Close; 4 Close, a is its Open; 5 s-variable, 6 t-variable, 7 e-variable, a and b their name; 8 Call, 9 Block." A Call or Block names nothing. What each
+-- kind means is 01's rendering of the Refal-5 manual, sections 1.3 and 2.2.
 unfoldable pub elementK : ℕ → List ℕ → Item → Element Name
 elementK zero names t = lit (char (t .a))
 elementK (suc zero) names t = lit (ident (textAt names (t .a) (t .b)))
 elementK (suc (suc zero)) names t = lit (num (textAt names (t .a) (t .b)))
 elementK (suc (suc (suc zero))) names t = opening
 elementK (suc (suc (suc (suc zero)))) names t = closing
-elementK (suc (suc (suc (suc (suc zero))))) names t = one symbol (nameAt names 5 (t .a) (t .b))
-elementK (suc (suc (suc (suc (suc (suc zero)))))) names t = one term (nameAt names 6 (t .a) (t .b))
-elementK (suc (suc (suc (suc (suc (suc (suc zero))))))) names t = many (nameAt names 7 (t .a) (t .b))
+elementK (suc (suc (suc (suc (suc zero))))) names t = one symbol (nameAt names symbolVariableKind (t .a) (t .b))
+elementK (suc (suc (suc (suc (suc (suc zero)))))) names t = one term (nameAt names termVariableKind (t .a) (t .b))
+elementK (suc (suc (suc (suc (suc (suc (suc zero))))))) names t = many (nameAt names expressionVariableKind (t .a) (t .b))
 elementK (suc (suc (suc (suc (suc (suc (suc (suc k)))))))) names t = call
 
 -- What a pattern record means, with its text.
@@ -137,9 +174,9 @@ bindingNames names start = map (bindingName names) start
 
 -- A record by itself, its bracket partner apart.
 unfoldable pub itemRuleK : ℕ → List ℕ → Item → Bool
-itemRuleK zero names t = symbolRule 0 names (t .a) (t .b) (t .c)
-itemRuleK (suc zero) names t = symbolRule 1 names (t .a) (t .b) (t .c)
-itemRuleK (suc (suc zero)) names t = symbolRule 2 names (t .a) (t .b) (t .c)
+itemRuleK zero names t = symbolRule charKind names (t .a) (t .b) (t .c)
+itemRuleK (suc zero) names t = symbolRule identifierKind names (t .a) (t .b) (t .c)
+itemRuleK (suc (suc zero)) names t = symbolRule numberKind names (t .a) (t .b) (t .c)
 itemRuleK (suc (suc (suc zero))) names t = eqb (t .b) 0 && eqb (t .c) 0
 itemRuleK (suc (suc (suc (suc zero)))) names t = eqb (t .b) 0 && eqb (t .c) 0
 itemRuleK (suc (suc (suc (suc (suc zero))))) names t = textRule variableText names (t .a) (t .b) && eqb (t .c) 0
@@ -159,7 +196,7 @@ unfoldable pub nestRuleK : ℕ → List Item → Item → ℕ → List ℕ → (
 nestRuleK zero all t i opened rest = rest opened
 nestRuleK (suc zero) all t i opened rest = rest opened
 nestRuleK (suc (suc zero)) all t i opened rest = rest opened
-nestRuleK (suc (suc (suc zero))) all t i opened rest = ltb (length opened) 32 && rest (i ∷ opened)
+nestRuleK (suc (suc (suc zero))) all t i opened rest = ltb (length opened) nestingLimit && rest (i ∷ opened)
 nestRuleK (suc (suc (suc (suc zero)))) all t i opened rest = closeRule all t i opened rest
 nestRuleK (suc (suc (suc (suc (suc k))))) all t i opened rest = rest opened
 
@@ -179,7 +216,7 @@ patternRule names p = itemsRule names p p 0 []
 
 -- "kind 5 to 7", a variable's name. The run is judged apart (5 PastEnd).
 unfoldable pub bindingRule : List ℕ → Binding → Bool
-bindingRule names b = leb 5 (b .kind) && leb (b .kind) 7 && textRule variableText names (b .offset) (b .size)
+bindingRule names b = leb symbolVariableKind (b .kind) && leb (b .kind) expressionVariableKind && textRule variableText names (b .offset) (b .size)
 
 -- "Starting bindings repeat no name"; t are the names before. 8 BadBinding otherwise.
 unfoldable pub bindingsRule : List ℕ → List Binding → List Name → Bool

@@ -16,8 +16,9 @@ use Rattle.match_spec.specs.Walk.{hit}
 use Rattle.match_spec.specs.Answer.{Wanted, afterOne, absorb, absorbOne, writeHit}
 use Rattle.match_spec.specs.AnswerLaws.{write-room, write-full}
 use Rattle.calls_spec.specs.Demand3.{readSlots}
+use Rattle.matcher.specs.declared.Goal.{Goal}
 use Rattle.matcher.specs.declared.Tally.{Tally}
-use Rattle.matcher.specs.Ready.{candidatesIn, statusOf, progressOf, wantedOf, Filled}
+use Rattle.matcher.specs.Ready.{candidatesIn, statusOf, wantedOf, slotWords, Written}
 
 -- ---- the copy ----
 
@@ -107,33 +108,35 @@ unfolding statusOf afterOne wantedOf
 stop-all e = rw e refl
 
 -- What the code answers for a candidate.
-abbrev pub Emitted : ℕ → ℕ → Wanted → List Run → Tally → Tally → List ℕ → List ℕ → Type 0
-Emitted m cap q B f r before after = (progressOf m r after ≡ absorb q cap (hit B ∷ []) (progressOf m f before)) × Filled m cap f r before after
+module _ (g : Goal) (f : Tally) (before : List ℕ) (goes : f .stop ≡ 0) where
+  abbrev written-so-far : List (List Run)
+  written-so-far = candidatesIn (g .entries) (f .count) before
 
-module _ (m cap : ℕ) (q : Wanted) (f : Tally) (before : List ℕ) (goes : f .stop ≡ 0) where
   -- no slot is left
-  pub emit-full : (B : List Run) → f .count ≤ cap → cap ≤ f .count → Emitted m cap q B f (record { stop = 2; count = f .count }) before before
+  pub emit-full : (B : List Run) → f .count ≤ g .cap → g .cap ≤ f .count → Written g (hit B ∷ []) f (record { stop = 2; count = f .count }) before before
   unfolding statusOf
-  emit-full B most h = (
-    sym (absorb-hit q cap B (candidatesIn m (f .count) before) (f .stop) goes
-        ∙ write-full q cap (candidatesIn m (f .count) before) B (omega (arith, candidates-length m (f .count) before))),
-    record { more = omega arith; most = most; rest = refl },
-  )
+  emit-full B most h = record {
+    taken = sym (absorb-hit (wantedOf (g .head)) (g .cap) B written-so-far (f .stop) goes
+        ∙ write-full (wantedOf (g .head)) (g .cap) written-so-far B (omega (arith, candidates-length (g .entries) (f .count) before)));
+    filled = record { more = omega arith; most = most; rest = refl };
+  }
 
-  -- the next slot has the words of the m entries
-  pub emit-written : (stop : ℕ) {binds after : List ℕ} {i : ℕ} → cap * (m * 2) ≤ length before → m * 2 ≤ length binds → f .count < cap
-      → Pasted before binds (f .count * (m * 2)) (m * 2) after i → m * 2 ≤ i → statusOf stop ≡ afterOne q
-      → Emitted m cap q (decode runLayout m binds) f (record { stop = stop; count = f .count + 1 }) before after
+  -- the next slot has the words of the entries
+  pub emit-written : (stop : ℕ) {binds after : List ℕ} {i : ℕ} → g .cap * slotWords (g .entries) ≤ length before → slotWords (g .entries) ≤ length binds → f .count < g .cap
+      → Pasted before binds (f .count * slotWords (g .entries)) (slotWords (g .entries)) after i → slotWords (g .entries) ≤ i → statusOf stop ≡ afterOne (wantedOf (g .head))
+      → Written g (hit (decode runLayout (g .entries) binds) ∷ []) f (record { stop = stop; count = f .count + 1 }) before after
   emit-written stop {binds} {after} {i} room long lt so-far ended es =
-      let fits : f .count * (m * 2) + m * 2 ≤ length before = slot-within m (f .count) cap before room lt in
+      let m = g .entries in
+      let fits : f .count * (m * 2) + m * 2 ≤ length before = slot-within m (f .count) (g .cap) before room lt in
       let ei : i ≡ m * 2 = omega (arith, so-far .most) in
-      let ew : after ≡ paste before (f .count * (m * 2)) binds (m * 2) = so-far .words ∙ ap (paste before (f .count * (m * 2)) binds) ei in (
-        ap₂ (λ w t. record { written = w; status = t }) (ap (candidatesIn m (f .count + 1)) ew ∙ slot-written m (f .count) before binds fits long) es
-            ∙ sym (write-room q cap (candidatesIn m (f .count) before) (decode runLayout m binds) (omega (arith, candidates-length m (f .count) before)))
-            ∙ sym (absorb-hit q cap (decode runLayout m binds) (candidatesIn m (f .count) before) (f .stop) goes),
-        record {
+      let ew : after ≡ paste before (f .count * (m * 2)) binds (m * 2) = so-far .words ∙ ap (paste before (f .count * (m * 2)) binds) ei in
+      record {
+        taken = ap₂ (λ w t. record { written = w; status = t }) (ap (candidatesIn m (f .count + 1)) ew ∙ slot-written m (f .count) before binds fits long) es
+            ∙ sym (write-room (wantedOf (g .head)) (g .cap) written-so-far (decode runLayout m binds) (omega (arith, candidates-length m (f .count) before)))
+            ∙ sym (absorb-hit (wantedOf (g .head)) (g .cap) (decode runLayout m binds) written-so-far (f .stop) goes);
+        filled = record {
           more = omega arith;
           most = omega arith;
           rest = ap (drop ((f .count + 1) * (m * 2))) ew ∙ slot-rest m (f .count) before binds fits long;
-        },
-      )
+        };
+      }

@@ -17,7 +17,7 @@ use Rattle.match_spec.specs.Listing.{enter}
 use Rattle.match_spec.specs.Walk.{Event, hit, Reading, runs, cellsOf, strip, ends, ifEmpty, finishWalk, leaveLevel, topLevel, spread, walk}
 use Rattle.match_spec.specs.WalkLaws.{strip-sound}
 use Rattle.match_spec.specs.RunLaws.{Inside}
-use Rattle.steps.specs.TurnLaws.{Sound, Stays}
+use Rattle.steps.specs.Stays.{Sound, Stays}
 
 -- ---- what the cells of a run inside the terms are ----
 

@@ -1,5 +1,6 @@
 pub mod Ready
 pub mod EmitLaws
 pub mod EndLaws
-pub mod WalkedLaws
 pub mod FoldLaws
+pub mod WalkedLaws
+pub mod SplitLaws

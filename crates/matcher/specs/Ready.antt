@@ -1,30 +1,89 @@
--- What the walk in code asks for, and how its tally and the slots' words stand for the progress of the specification.
+-- What the walk in code asks for and leaves, and how its tally and the slots' words stand for the progress of the specification.
 use mathlib.Core.Path.{_≡_}
 use mathlib.Core.List.{List}
 use mathlib.Core.Bool.{Bool, true, false}
-use lib.Dec.{T}
-use lib.ListN.{length, drop}
-use Prim.Native.Nat.{ℕ, suc, zero, _*_, _≤_}
-use Rattle.term_spec.specs.Words.{records, count}
-use Rattle.term_spec.specs.Term.{Run}
+use lib.ListN.{length, set, drop}
+use Prim.Native.Nat.{ℕ, suc, zero, _+_, _*_, _<_, _≤_}
+use Rattle.term_spec.specs.Words.{count}
+use Rattle.term_spec.specs.Term.{Run, limit, runLayout}
 use Rattle.match_spec.specs.Element.{Element}
-use Rattle.match_spec.specs.Pattern.{itemLayout, patternRule}
-use Rattle.match_spec.specs.Answer.{Status, going, done, full, called, Progress, Wanted, allOfThem, headOnly}
+use Rattle.match_spec.specs.Pattern.{itemLayout, nameLimit}
+use Rattle.match_spec.specs.Walk.{Event, Reading, walk}
+use Rattle.match_spec.specs.Answer.{Status, going, done, full, called, Progress, Wanted, allOfThem, headOnly, absorb}
 use Rattle.calls_spec.specs.Demand3.{readSlots}
-use Rattle.value.specs.Equal.{Store}
-use Rattle.steps.specs.State.{Place, levelOf, stackOf, entriesOf, codedAll}
-use Rattle.steps.specs.TurnLaws.{Stays}
+use Rattle.value.specs.Equal.{TermStore}
+use Rattle.steps.specs.Turn.{onward}
+use Rattle.steps.specs.State.{Place, storeRuns, levelOf, stackOf, levelsOf, entriesOf, entriesIn, turnAs, patternIn, LevelRoom, EntryRoom, PatternReady}
+use Rattle.steps.specs.Stays.{Stays, Kept, Grows}
+use Rattle.steps.specs.declared.What.{What}
+use Rattle.steps.specs.declared.What.the-variants.{Next}
+use Rattle.matcher.specs.declared.Goal.{Goal}
 use Rattle.matcher.specs.declared.Tally.{Tally}
 
--- The pattern of the words, with the numbers of its names.
-abbrev pub patternIn : List ℕ → List ℕ → List ℕ → List (Element ℕ)
-patternIn names pattern numbers = codedAll names (records itemLayout pattern) numbers
+-- ---- what the walk reads and leaves as it is ----
+
+-- The names, the terms with how many are used, the pattern, and the numbers of its names.
+pub record Given : Type 0 where
+  pub names : List ℕ
+  pub terms : List ℕ
+  pub used : ℕ
+  pub pattern : List ℕ
+  pub numbers : List ℕ
+
+-- They, from the lent slices.
+abbrev pub givenOf : List ℕ → List ℕ → ℕ → List ℕ → List ℕ → Given
+givenOf names terms used pattern numbers = record { names = names; terms = terms; used = used; pattern = pattern; numbers = numbers }
+
+-- The runs of the terms.
+abbrev pub readingOf : Given → Reading Run
+readingOf v = storeRuns (v .names) (v .terms) (v .used)
+
+-- The pattern from record p on, with the numbers of its names.
+abbrev pub patternFrom : Given → ℕ → List (Element ℕ)
+patternFrom v p = drop p (patternIn (v .names) (v .pattern) (v .numbers))
+
+-- The events of the specification's walk from record p on, at a place.
+abbrev pub eventsFrom : Given → ℕ → Place → List (Event (List Run))
+eventsFrom v p s = walk (readingOf v) (patternFrom v p) (levelsOf s) (entriesOf s)
+
+-- ---- where the walk may stand ----
+
+-- The stores and the pattern are within their rules, and the walk may stand where it does, before record p, with m names.
+pub record Ready (v : Given) (p m : ℕ) (s : Place) : Type 0 where
+  pub store : TermStore (v .names) (v .terms) (v .used)
+  pub few : v .used ≤ limit
+  pub pattern : PatternReady (v .names) (v .pattern) (v .numbers)
+  pub here : p ≤ count itemLayout (v .pattern)
+  pub stays : Stays (v .used) (patternFrom v p) m (levelOf s) (stackOf (s .depth) (s .levels)) (entriesOf s)
+  pub names-few : m ≤ nameLimit
+  pub level-room : LevelRoom (s .levels)
+  pub entry-room : EntryRoom (s .binds)
+
+-- So with some number of names, and record p is there: it may take its turn.
+pub record CanTurn (v : Given) (p : ℕ) (s : Place) : Type 0 where
+  pub entries : ℕ
+  pub ready : Ready v p entries s
+  pub there : p < count itemLayout (v .pattern)
+
+-- ---- the turn that a record has taken ----
+
+-- At the place s it does w, and the walk stands at `at` after it; `start` and `len` are the words of level `s .depth` before it.
+pub record TurnTaken (v : Given) (p : ℕ) (s : Place) (w : What) (at : Place) (start len : ℕ) : Type 0 where
+  pub there : p < count itemLayout (v .pattern)
+  pub events : eventsFrom v p s ≡ onward (readingOf v) (patternFrom v (p + 1)) (turnAs w at)
+  pub kept : (m : ℕ) → Ready v p m s → Kept (v .used) (patternFrom v (p + 1)) m (levelOf s) (stackOf (s .depth) (s .levels)) (entriesOf s) (turnAs w at)
+  pub grows : Grows (length (entriesOf s)) (turnAs w at)
+  pub back : w ≡ Next → set (set (at .levels) (2 * s .depth) start) (2 * s .depth + 1) len ≡ s .levels
+  pub same : (w ≡ Next → ⊥) → at .levels ≡ s .levels
+  pub entries-same : entriesIn (s .bound) (at .binds) ≡ entriesOf s
+
+-- ---- the slots ----
 
 -- Candidates of m entries each, from the slots' words.
 abbrev pub candidatesIn : ℕ → ℕ → List ℕ → List (List Run)
 candidatesIn m c w = readSlots c m w
 
--- 0 going, 1 done, 2 full, 3 called.
+-- A tally's reason to stop, by its number: 0 going, 1 done, 2 full, 3 called.
 unfoldable pub statusOf : ℕ → Status
 statusOf zero = going
 statusOf (suc zero) = done
@@ -40,22 +99,29 @@ unfoldable pub wantedOf : Bool → Wanted
 wantedOf true = headOnly
 wantedOf false = allOfThem
 
--- The stores and the pattern are within their rules, the walk may stand where it does, and so many slots of m entries are there.
-pub record Ready (names terms : List ℕ) (used : ℕ) (pattern numbers : List ℕ) (p m : ℕ) (s : Place) (cap : ℕ) (slots : List ℕ) : Type 0 where
-  pub store : Store names terms used
-  pub few : used ≤ 65536
-  pub rule : T (patternRule names (records itemLayout pattern))
-  pub short : length pattern ≤ 1027
-  pub numbered : count itemLayout pattern ≤ length numbers
-  pub here : p ≤ count itemLayout pattern
-  pub stays : Stays used (drop p (patternIn names pattern numbers)) m (levelOf s) (stackOf (s .depth) (s .levels)) (entriesOf s)
-  pub names-few : m ≤ 64
-  pub level-room : 66 ≤ length (s .levels)
-  pub entry-room : 128 ≤ length (s .binds)
-  pub room : cap * (m * 2) ≤ length slots
+-- The words of a slot of m entries.
+abbrev pub slotWords : ℕ → ℕ
+slotWords m = m * runLayout .width
+
+-- So many slots as the goal says are there, no more of them are written than that, and nothing has stopped the listing.
+pub record SlotsReady (g : Goal) (f : Tally) (slots : List ℕ) : Type 0 where
+  pub room : g .cap * slotWords (g .entries) ≤ length slots
+  pub most : f .count ≤ g .cap
+  pub goes : f .stop ≡ 0
 
 -- No more than the slots are written, and the words after them are as they were.
 pub record Filled (m cap : ℕ) (f r : Tally) (before after : List ℕ) : Type 0 where
   pub more : f .count ≤ r .count
   pub most : r .count ≤ cap
-  pub rest : drop (r .count * (m * 2)) after ≡ drop (r .count * (m * 2)) before
+  pub rest : drop (r .count * slotWords m) after ≡ drop (r .count * slotWords m) before
+
+-- The events are taken in: from the tally f and the slots' words before to the tally r and the words after.
+pub record Written (g : Goal) (events : List (Event (List Run))) (f r : Tally) (before after : List ℕ) : Type 0 where
+  pub taken : progressOf (g .entries) r after ≡ absorb (wantedOf (g .head)) (g .cap) events (progressOf (g .entries) f before)
+  pub filled : Filled (g .entries) (g .cap) f r before after
+
+-- What the walk from the place s leaves: the events taken in, the words of the levels as they were, and the entries that were known.
+pub record Walked (g : Goal) (events : List (Event (List Run))) (f r : Tally) (before after : List ℕ) (s : Place) (levels binds : List ℕ) : Type 0 where
+  pub written : Written g events f r before after
+  pub levels-same : levels ≡ s .levels
+  pub entries-same : entriesIn (s .bound) binds ≡ entriesOf s

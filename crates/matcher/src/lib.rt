@@ -1,57 +1,120 @@
 // The depth-first walk over a pattern, with its candidates written into slots. From matcher.rs (`match_all_from`, `match_first_from`): the lists
 // of candidates of the Rust become slots that are filled in the same order.
-use items::Item;
+pub mod status;
+
 use steps::State;
 use steps::What;
 ghost use mathlib.Core.Path.{_≡_};
 ghost use mathlib.Core.List.{[], _∷_};
-ghost use Prim.Native.Nat.{_+_, _*_, _<_, _≤_};
-ghost use lib.ListN.{length, drop};
-ghost use Rattle.term_spec.specs.Words.{decode};
-ghost use Rattle.term_spec.specs.Term.{termLayout};
-ghost use Rattle.match_spec.specs.Walk.{runs, hit, walk as walkOf};
-ghost use Rattle.match_spec.specs.Answer.{absorb};
-ghost use Rattle.steps.specs.State.{placeOf, levelsOf, entriesOf, entriesIn};
-ghost use Rattle.matcher.specs.Ready.{patternIn, progressOf, wantedOf, Ready, Filled};
+ghost use Prim.Native.Nat.{_≤_};
+ghost use Rattle.match_spec.specs.Pattern.{nameLimit};
+ghost use Rattle.match_spec.specs.Walk.{hit};
+ghost use Rattle.steps.specs.State.{placeOf, entriesIn, EntryRoom};
+ghost use Rattle.matcher.specs.Ready.{givenOf, eventsFrom, Ready, CanTurn, TurnTaken, SlotsReady, Written, Walked};
 
-// How far a listing is: why it stopped (0 it goes on, 1 it has the head that was wanted, 2 a candidate came after the slots were filled, 3 a
-// Call or Block was reached), and the candidates written.
+// What a listing is to bring: how many entries a candidate has, how many slots there are, and whether the head alone is wanted. A limit on
+// tries (02: 2.5) is to be two fields more.
+pub struct Goal {
+    pub entries: usize,
+    pub cap: usize,
+    pub head: bool,
+}
+
+// How far a listing is: why it stopped, one of `status`, and the candidates written.
 pub struct Tally {
     pub stop: usize,
     pub count: usize,
 }
 
+// A turn as the walk takes it: what the record does, where the walk stands after it, and the two words that an Open may have written over.
+struct Taken {
+    what: What,
+    state: State,
+    start: u32,
+    len: u32,
+}
+
 // A candidate, the words of its entries in `binds`, goes into the next slot if there is one.
-fn emit(binds: &[u32], names: usize, cap: usize, head: bool, slots: &mut [u32], f: Tally) -> Tally
-    requires { ⌜ (names ≤ 64) × (128 ≤ length (now binds)) × (cap * (names * 2) ≤ length (now slots)) ⌝ }
-    requires { ⌜ (f .stop ≡ 0) × (f .count ≤ cap) ⌝ }
-    ensures { λ r. ⌜ (progressOf names r (now (slots .exit)) ≡ absorb (wantedOf head) cap (hit (entriesIn names (now (binds .entry))) ∷ []) (progressOf names f (now (slots .entry)))) × Filled names cap f r (now (slots .entry)) (now (slots .exit)) ⌝ }
+fn emit(binds: &[u32], g: Goal, slots: &mut [u32], f: Tally) -> Tally
+    requires { ⌜ (g .entries ≤ nameLimit) × EntryRoom (now binds) ⌝ }
+    requires { ⌜ SlotsReady g f (now slots) ⌝ }
+    ensures { λ r.
+        let candidate = entriesIn (g .entries) (now (binds .entry)) in
+        ⌜ Written g (hit candidate ∷ []) f r (now (slots .entry)) (now (slots .exit)) ⌝ }
 {
     let count = f.count;
-    if cap <= count {
-        return Tally { stop: 2, count };
+    if g.cap <= count {
+        return Tally {
+            stop: status::FULL,
+            count,
+        };
     }
-    let width = names * words::RUN_WIDTH;
+    let width = g.entries * words::RUN_WIDTH;
     let base = count * width;
     let mut i = 0;
     while i < width {
         slots[base + i] = binds[i];
         i += 1;
     }
-    if head {
+    if g.head {
         return Tally {
-            stop: 1,
+            stop: status::DONE,
             count: count + 1,
         };
     }
     Tally {
-        stop: 0,
+        stop: status::GOING,
         count: count + 1,
     }
 }
 
-// The walk from record p on: it calls itself at the next pattern record, and the split loop is inside. The words of the levels are as they
-// were when it returns, and those of the known entries are. `limited` and `limit` are for a limit on tries (02: 2.5) and mean nothing yet.
+// The turn of record p. A known e-variable that ends its level with another number of terms stops without a turn.
+fn take_turn(
+    names: &[u8],
+    terms: &[u32],
+    used: usize,
+    pattern: &[u32],
+    numbers: &[u32],
+    p: usize,
+    s: State,
+    levels: &mut [u32],
+    binds: &mut [u32],
+) -> Taken
+    requires { let given = givenOf (now names) (now terms) used (now pattern) (now numbers) in
+        ⌜ CanTurn given p (placeOf s (now levels) (now binds)) ⌝ }
+    ensures { λ r.
+        let given = givenOf (now (names .entry)) (now (terms .entry)) used (now (pattern .entry)) (now (numbers .entry)) in
+        let here = placeOf s (now (levels .entry)) (now (binds .entry)) in
+        let after = placeOf (r .state) (now (levels .exit)) (now (binds .exit)) in
+        ⌜ TurnTaken given p here (r .what) after (r .start) (r .len) ⌝ }
+{
+    let t = items::get_item(pattern, p);
+    let x = words::word(numbers, p);
+    let last = steps::ends_at(pattern, p + 1);
+    if steps::ends_apart(t.kind, x, last, s, binds) {
+        return Taken {
+            what: What::Stop,
+            state: s,
+            start: 0,
+            len: 0,
+        };
+    }
+    let d = s.depth;
+    let start = levels[2 * d];
+    let len = levels[2 * d + 1];
+    let turned = steps::turn(names, terms, used, t, x, last, s, levels, binds);
+    let what = turned.what;
+    let state = turned.state;
+    Taken {
+        what,
+        state,
+        start,
+        len,
+    }
+}
+
+// The walk from record p on, with a tally that goes on. It calls itself at the next pattern record, and the split loop is inside. The words of
+// the levels are as they were when it returns, and those of the known entries are.
 pub fn walk(
     names: &[u8],
     terms: &[u32],
@@ -59,46 +122,36 @@ pub fn walk(
     pattern: &[u32],
     numbers: &[u32],
     p: usize,
-    entries: usize,
     s: State,
     levels: &mut [u32],
     binds: &mut [u32],
-    cap: usize,
-    head: bool,
-    limited: bool,
-    limit: u64,
+    g: Goal,
     slots: &mut [u32],
     f: Tally,
 ) -> Tally
-    requires { ⌜ Ready (now names) (now terms) used (now pattern) (now numbers) p entries (placeOf s (now levels) (now binds)) cap (now slots) ⌝ }
-    requires { ⌜ (f .count ≤ cap) ⌝ }
-    ensures { λ r. ⌜ (progressOf entries r (now (slots .exit)) ≡ absorb (wantedOf head) cap (walkOf (runs (now (names .entry)) (decode termLayout used (now (terms .entry)))) (drop p (patternIn (now (names .entry)) (now (pattern .entry)) (now (numbers .entry)))) (levelsOf (placeOf s (now (levels .entry)) (now (binds .entry)))) (entriesOf (placeOf s (now (levels .entry)) (now (binds .entry))))) (progressOf entries f (now (slots .entry)))) × Filled entries cap f r (now (slots .entry)) (now (slots .exit)) × (now (levels .exit) ≡ now (levels .entry)) × (entriesIn (s .bound) (now (binds .exit)) ≡ entriesIn (s .bound) (now (binds .entry))) ⌝ }
+    requires { let given = givenOf (now names) (now terms) used (now pattern) (now numbers) in
+        ⌜ Ready given p (g .entries) (placeOf s (now levels) (now binds)) ⌝ }
+    requires { ⌜ SlotsReady g f (now slots) ⌝ }
+    ensures { λ r.
+        let given = givenOf (now (names .entry)) (now (terms .entry)) used (now (pattern .entry)) (now (numbers .entry)) in
+        let here = placeOf s (now (levels .entry)) (now (binds .entry)) in
+        let walked = Walked g (eventsFrom given p here) f r (now (slots .entry)) (now (slots .exit)) here in
+        ⌜ walked (now (levels .exit)) (now (binds .exit)) ⌝ }
 {
-    if f.stop != 0 {
-        return f;
-    }
     if pattern.len() / items::ITEM_WIDTH <= p {
         if s.len != 0 {
             return f;
         }
-        return emit(binds, entries, cap, head, slots, f);
-    }
-    let t = items::get_item(pattern, p);
-    let x = words::word(numbers, p);
-    let last = steps::ends_at(pattern, p + 1);
-    if steps::ends_apart(t.kind, x, last, s, binds) {
-        return f;
+        return emit(binds, g, slots, f);
     }
     let d = s.depth;
-    let kept_start = levels[2 * d];
-    let kept_len = levels[2 * d + 1];
-    let mv = steps::step(names, terms, used, t, x, last, s, levels, binds);
-    let what = mv.what;
-    let at = mv.state;
+    let taken = take_turn(names, terms, used, pattern, numbers, p, s, levels, binds);
+    let what = taken.what;
+    let at = taken.state;
     match what {
         What::Stop => f,
         What::Call => Tally {
-            stop: 3,
+            stop: status::CALLED,
             count: f.count,
         },
         What::Next => {
@@ -109,18 +162,14 @@ pub fn walk(
                 pattern,
                 numbers,
                 p + 1,
-                entries,
                 at,
                 levels,
                 binds,
-                cap,
-                head,
-                limited,
-                limit,
+                g,
                 slots,
                 f,
             );
-            steps::put_back(levels, d, kept_start, kept_len);
+            steps::put_back(levels, d, taken.start, taken.len);
             got
         }
         What::Split => {
@@ -146,18 +195,14 @@ pub fn walk(
                     pattern,
                     numbers,
                     p + 1,
-                    entries,
                     given,
                     levels,
                     binds,
-                    cap,
-                    head,
-                    limited,
-                    limit,
+                    g,
                     slots,
                     got,
                 );
-                if got.stop != 0 {
+                if got.stop != status::GOING {
                     return got;
                 }
                 k = rigid::next_split(

@@ -2,18 +2,45 @@
 use mathlib.Core.Path.{_≡_, refl, _∙_}
 use mathlib.Core.List.{List, [], _∷_}
 use mathlib.Core.Logic.{inl, inr}
-use lib.ListN.{length}
+use lib.ListN.{length, replicate, length-replicate}
 use Prim.Native.Nat.{ℕ, suc, zero, _+_, _<_, _≤_, min, max}
 use native.Mathlib.Decide.{decLe}
 use native.Mathlib.Omega.{arith}
 use Rattle.term_spec.specs.Words.{recordAt, write}
+use Rattle.term_spec.specs.Term.{limit}
 use Rattle.term_spec.specs.WordsLaws.{decode-length}
-use Rattle.view_spec.specs.Node.{Node, nodeLayout, nodeAt, consNode, concatNode}
-use Rattle.view_spec.specs.NodeLaws.{NodeAt, ConcatAt, GoodNodes, node-at}
+use Rattle.view_spec.specs.Node.{Node, nodeLayout, consKind, concatKind, nodeAt, consNode, concatNode, GoodNodes}
+use Rattle.view_spec.specs.NodeLaws.{NodeAt, ConcatAt, node-at}
 use Rattle.view_spec.specs.Build.{unclamp}
 use Rattle.view_spec.specs.PlanLaws.{leftLen, if-yes, if-no, unclamp-leaf, unclamp-concat}
-use Rattle.nodes.specs.Store.{nodesIn, Store}
+use Rattle.nodes.specs.NodeStore.{nodesIn, NodeStore}
 use Rattle.nodes.specs.RuleLaws.{below-at}
+
+-- A list that has an entry for each term: laws over terms are used for their number only.
+abbrev pub any : ℕ → List ℕ
+any terms = replicate terms 0
+
+pub good-any : (terms : ℕ) (ns : List Node) → GoodNodes terms ns → GoodNodes (length (any terms)) ns
+good-any terms ns g = rw length-replicate g
+
+module _ (terms : ℕ) (ns : List Node) (g : GoodNodes terms ns) (i : ℕ) (lt : i < length ns) where
+  -- A Concat, where the code tests the kind.
+  pub concat-at : (nodeAt ns i) .kind ≡ concatKind → ConcatAt ns i
+  concat-at k = go (node-at terms ns i g lt)
+    where
+      go : NodeAt terms ns i → ConcatAt ns i
+      go (inl f) = absurd (omega arith)
+      go (inr (inl f)) = absurd (omega arith)
+      go (inr (inr f)) = f
+
+  -- No Concat.
+  pub leaf-at : ((nodeAt ns i) .kind ≡ concatKind → ⊥) → (nodeAt ns i) .kind ≤ consKind
+  leaf-at k = go (node-at terms ns i g lt)
+    where
+      go : NodeAt terms ns i → (nodeAt ns i) .kind ≤ consKind
+      go (inl f) = omega arith
+      go (inr (inl f)) = omega arith
+      go (inr (inr f)) = absurd (k (f .kind2))
 
 -- A node's height is at most its number: its children are lower.
 height-low : (terms : ℕ) (ns : List Node) → GoodNodes terms ns → (m i : ℕ) → i < m → i < length ns → (nodeAt ns i) .height ≤ i
@@ -27,7 +54,7 @@ height-low terms ns g (suc m) i h lt = go (height-low terms ns g m) (node-at ter
         omega (arith, rec ((nodeAt ns i) .a) (omega arith) (omega arith), rec ((nodeAt ns i) .c) (omega arith) (omega arith))
 
 -- A node's reach is at most the limit.
-reach-low : (terms : ℕ) (ns : List Node) (i : ℕ) → NodeAt terms ns i → (nodeAt ns i) .reach ≤ 65536
+reach-low : (terms : ℕ) (ns : List Node) (i : ℕ) → NodeAt terms ns i → (nodeAt ns i) .reach ≤ limit
 reach-low terms ns i (inl f) = omega arith
 reach-low terms ns i (inr (inl f)) = omega arith
 reach-low terms ns i (inr (inr f)) = omega arith
@@ -36,9 +63,9 @@ reach-low terms ns i (inr (inr f)) = omega arith
 pub record Known (w : List ℕ) (used i : ℕ) (n : Node) : Type 0 where
   pub same : n ≡ nodeAt (nodesIn w used) i
   pub height : n .height ≤ i
-  pub reach : n .reach ≤ 65536
+  pub reach : n .reach ≤ limit
 
-module _ (w : List ℕ) (terms used : ℕ) (s : Store w terms used) where
+module _ (w : List ℕ) (terms used : ℕ) (s : NodeStore w terms used) where
   inside : (i : ℕ) → i < used → i < length (nodesIn w used)
   inside i h = rw decode-length h
 
@@ -56,44 +83,34 @@ module _ (w : List ℕ) (terms used : ℕ) (s : Store w terms used) where
 
   -- ---- unclamp ----
 
-  leaf : (i : ℕ) → ((nodeAt (nodesIn w used) i) .kind ≡ 2 → ⊥) → NodeAt terms (nodesIn w used) i → (nodeAt (nodesIn w used) i) .kind ≤ 1
-  leaf i k (inl f) = omega arith
-  leaf i k (inr (inl f)) = omega arith
-  leaf i k (inr (inr f)) = absurd (k (f .kind2))
-
-  concat : (i : ℕ) → (nodeAt (nodesIn w used) i) .kind ≡ 2 → NodeAt terms (nodesIn w used) i → ConcatAt (nodesIn w used) i
-  concat i k (inl f) = absurd (omega arith)
-  concat i k (inr (inl f)) = absurd (omega arith)
-  concat i k (inr (inr f)) = f
-
   module _ (i len : ℕ) {n : Node} (h : i < used) (e : n ≡ recordAt nodeLayout w i) where
     -- no Concat
-    pub unclamp-here : (n .kind ≡ 2 → ⊥) → unclamp (nodesIn w used) i len ≡ i
-    unclamp-here k = unclamp-leaf (nodesIn w used) i len (inside i h) (leaf i (rw (below-at w used i e h) at k) (facts i h))
+    pub unclamp-here : (n .kind ≡ concatKind → ⊥) → unclamp (nodesIn w used) i len ≡ i
+    unclamp-here k = unclamp-leaf (nodesIn w used) i len (inside i h) (leaf-at terms (nodesIn w used) (s .good) i (inside i h) (rw (below-at w used i e h) at k))
 
     -- a Concat whose left is too short
-    pub unclamp-short : n .kind ≡ 2 → n .b < len → unclamp (nodesIn w used) i len ≡ i
+    pub unclamp-short : n .kind ≡ concatKind → n .b < len → unclamp (nodesIn w used) i len ≡ i
     unclamp-short k b =
         let q = below-at w used i e h in
-        unclamp-concat (nodesIn w used) i len (inside i h) (concat i (rw q at k) (facts i h))
+        unclamp-concat (nodesIn w used) i len (inside i h) (concat-at terms (nodesIn w used) (s .good) i (inside i h) (rw q at k))
         ∙ if-no (decLe len (leftLen (nodesIn w used) i)) _ _ (λ z. omega (arith, rw q at b))
 
     -- a Concat whose left is long enough: it is lower, and decides
-    pub unclamp-left : n .kind ≡ 2 → len ≤ n .b → (n .a < i) × (unclamp (nodesIn w used) i len ≡ unclamp (nodesIn w used) (n .a) len)
+    pub unclamp-left : n .kind ≡ concatKind → len ≤ n .b → (n .a < i) × (unclamp (nodesIn w used) i len ≡ unclamp (nodesIn w used) (n .a) len)
     unclamp-left k b =
         let q = below-at w used i e h in
-        let f = concat i (rw q at k) (facts i h) in
+        let f = concat-at terms (nodesIn w used) (s .good) i (inside i h) (rw q at k) in
         rw q (f .left-low, unclamp-concat (nodesIn w used) i len (inside i h) f ∙ if-yes (decLe len (leftLen (nodesIn w used) i)) _ _ (rw q at b))
 
 -- ---- one node more ----
 
 module _ (w : List ℕ) (used a b c : ℕ) {v : List ℕ} where
-  pub cons-made : {t : Node} {z : ℕ} → Known w used c t → z ≡ min 65536 (b + t .reach)
-      → v ≡ write nodeLayout w used (record { kind = 1; a = a; b = b; c = c; height = 1; reach = z } ∷ [])
+  pub cons-made : {t : Node} {z : ℕ} → Known w used c t → z ≡ min limit (b + t .reach)
+      → v ≡ write nodeLayout w used (record { kind = consKind; a = a; b = b; c = c; height = 1; reach = z } ∷ [])
       → v ≡ write nodeLayout w used (consNode (nodesIn w used) a b c ∷ [])
   cons-made k e q = q ∙ rw (e, k .same) refl
 
-  pub concat-made : {l r : Node} {h z : ℕ} → Known w used a l → Known w used c r → h ≡ max (l .height) (r .height) → z ≡ min 65536 (b + r .reach)
-      → v ≡ write nodeLayout w used (record { kind = 2; a = a; b = b; c = c; height = 1 + h; reach = z } ∷ [])
+  pub concat-made : {l r : Node} {h z : ℕ} → Known w used a l → Known w used c r → h ≡ max (l .height) (r .height) → z ≡ min limit (b + r .reach)
+      → v ≡ write nodeLayout w used (record { kind = concatKind; a = a; b = b; c = c; height = 1 + h; reach = z } ∷ [])
       → v ≡ write nodeLayout w used (concatNode (nodesIn w used) a b c ∷ [])
   concat-made {h = h} k m d e q = let s : 1 + h ≡ suc h = omega arith in q ∙ rw (s, d, e, k .same, m .same) refl

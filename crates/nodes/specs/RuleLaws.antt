@@ -10,11 +10,12 @@ use lib.Seq.{drop-cons, drop-length}
 use Prim.Native.Nat.{ℕ, suc, zero, _+_, _<_, _≤_, min, max}
 use native.Mathlib.Numerals.{add-one}
 use native.Mathlib.Omega.{arith}
+use Rattle.term_spec.specs.Term.{limit}
 use Rattle.term_spec.specs.Words.{decode, recordAt}
 use Rattle.term_spec.specs.WordsLaws.{decode-at, decode-length, decode-snoc}
 use Rattle.view_spec.specs.Node.{Node, nilNode, nodeLayout, nodeAt, nilRule, consRule, concatRule, nodeRuleK, nodeRule, eachNode, nodesRule, fieldRule}
 use Rattle.view_spec.specs.NodeLaws.{NilFacts, ConsFacts, ConcatFacts, NodeFacts, node-facts}
-use Rattle.nodes.specs.Store.{nodesIn}
+use Rattle.nodes.specs.NodeStore.{nodesIn}
 
 -- A test that cannot hold.
 refused : (b : Bool) → (T b → ⊥) → false ≡ b
@@ -56,7 +57,7 @@ module _ (w : List ℕ) (i : ℕ) (n : Node) where
       go (inr (inr f)) = omega arith
 
   pub cons-last : (used : ℕ) {t : Node} {b : Bool} → 1 ≤ n .b → n .a + n .b ≤ used → n .c < i → t ≡ nodeAt (nodesIn w i) (n .c) → t .kind ≤ 1 → n .height ≡ 1
-      → b ≡ eqb (n .reach) (min 65536 (n .b + t .reach)) → b ≡ consRule used (nodesIn w i) n
+      → b ≡ eqb (n .reach) (min limit (n .b + t .reach)) → b ≡ consRule used (nodesIn w i) n
   unfolding consRule
   cons-last used p q r e k h z = rw (decode-length, ← e, le-leb _ _ p, le-leb _ _ q, lt-ltb _ _ r, le-leb _ _ k, eq-eqb _ _ h) z
 
@@ -70,7 +71,7 @@ module _ (w : List ℕ) (i : ℕ) (n : Node) where
       go (inr (inr f)) = never f
 
   pub concat-last : {l r : Node} {b : Bool} → n .a < i → n .c < i → l ≡ nodeAt (nodesIn w i) (n .a) → r ≡ nodeAt (nodesIn w i) (n .c) → 1 ≤ l .kind → 1 ≤ r .kind
-      → 1 ≤ n .b → n .b ≤ l .reach → n .height ≡ suc (max (l .height) (r .height)) → b ≡ eqb (n .reach) (min 65536 (n .b + r .reach))
+      → 1 ≤ n .b → n .b ≤ l .reach → n .height ≡ suc (max (l .height) (r .height)) → b ≡ eqb (n .reach) (min limit (n .b + r .reach))
       → b ≡ concatRule (nodesIn w i) n
   unfolding concatRule
   concat-last p q d e k m s t h z =

@@ -3,34 +3,29 @@ use mathlib.Core.Path.{_≡_, refl, ap, sym}
 use mathlib.Core.List.{List, [], _∷_, _++_, map, map-append}
 use mathlib.Core.Bool.{Bool, true, false, _&&_}
 use borrow.Author.Tests.{le-leb, lt-leb}
-use lib.Dec.{T, leb, leb→le}
+use lib.Dec.{T, leb}
 use lib.ListN.{length, getD, drop}
-use Prim.Native.Nat.{ℕ, suc, zero, _+_, _/_, _<_, _≤_}
+use Prim.Native.Nat.{ℕ, suc, zero, _+_, _<_, _≤_}
 use native.Mathlib.Decide.{ℕ-discrete}
 use native.Mathlib.Numerals.{add-one}
 use native.Mathlib.Omega.{arith}
 use Rattle.term_spec.specs.BoolLaws.{both-of, true-T}
 use Rattle.term_spec.specs.Words.{decode, recordAt, records, count}
 use Rattle.term_spec.specs.WordsLaws.{decode-at, decode-snoc, decode-length, record-next, records-done}
-use Rattle.term_spec.specs.Text.{textAt, textRule}
+use Rattle.term_spec.specs.Text.{textRule}
 use Rattle.term_spec.specs.Term.{runRule, runsRule}
-use Rattle.text.specs.Texts.{spelling}
+use Rattle.text.specs.Texts.{nameText, spelling}
+use Rattle.text.specs.TextLaws.{text-within}
 use Rattle.match_spec.specs.Pattern.{Binding, bindingLayout, boundRun, Name, find, nameAt, bindingName, bindingNames, bindingRule, bindingsRule}
-use Rattle.pattern.specs.Records.{variable, BindingTexts}
+use Rattle.pattern.specs.Records.{bindingsIn, variable, BindingTexts}
 use Rattle.pattern.specs.NameLaws.{bindings-length}
 
 -- ---- a binding by itself ----
 
 module _ (names : List ℕ) (b : Binding) where
-  pub binding-rule : {z : Bool} → variable (b .kind) ≡ z → bindingRule names b ≡ z && textRule (spelling 3) names (b .offset) (b .size)
+  pub binding-rule : {z : Bool} → variable (b .kind) ≡ z → bindingRule names b ≡ z && textRule (spelling nameText) names (b .offset) (b .size)
   unfolding bindingRule textRule spelling
-  binding-rule e = ap (_&& textRule (spelling 3) names (b .offset) (b .size)) e
-
-pub text-within : (test : List ℕ → Bool) (names : List ℕ) (o n : ℕ) → T (textRule test names o n) → o + n ≤ length names
-unfolding textRule
-text-within test names o n h =
-    let front = both-of (leb 1 n && leb n 255 && leb (o + n) (length names)) (test (textAt names o n)) h .0 in
-    leb→le _ _ (both-of (leb 1 n && leb n 255) (leb (o + n) (length names)) front .1)
+  binding-rule e = ap (_&& textRule (spelling nameText) names (b .offset) (b .size)) e
 
 binding-within : (names : List ℕ) (b : Binding) → T (bindingRule names b) → b .offset + b .size ≤ length names
 unfolding bindingRule
@@ -42,26 +37,26 @@ named-text names b h = binding-within names b (true-T _ h)
 -- ---- every run inside ----
 
 module _ (w : List ℕ) (terms : ℕ) where
-  pub inside-all : (i : ℕ) → length w / 5 ≤ i → i ≤ length w / 5 → runsRule terms (map boundRun (drop i (records bindingLayout w))) ≡ runsRule terms (map boundRun (records bindingLayout w))
+  pub inside-all : (i : ℕ) → bindingsIn w ≤ i → i ≤ bindingsIn w → runsRule terms (map boundRun (drop i (records bindingLayout w))) ≡ runsRule terms (map boundRun (records bindingLayout w))
       → true ≡ runsRule terms (map boundRun (records bindingLayout w))
   unfolding runsRule records count
-  inside-all i g l h = rw (records-done bindingLayout (length w / 5) w i (omega arith)) at h
+  inside-all i g l h = rw (records-done bindingLayout (bindingsIn w) w i (omega arith)) at h
 
-  module _ (i : ℕ) {b : Binding} (lt : i < length w / 5) (e : b ≡ recordAt bindingLayout w i)
+  module _ (i : ℕ) {b : Binding} (lt : i < bindingsIn w) (e : b ≡ recordAt bindingLayout w i)
       (h : runsRule terms (map boundRun (drop i (records bindingLayout w))) ≡ runsRule terms (map boundRun (records bindingLayout w))) where
     pub inside-not : terms < b .start + b .len → false ≡ runsRule terms (map boundRun (records bindingLayout w))
     unfolding runsRule runRule records count
-    inside-not k = rw (record-next bindingLayout (length w / 5) w i lt e, lt-leb (b .start + b .len) terms k) at h
+    inside-not k = rw (record-next bindingLayout (bindingsIn w) w i lt e, lt-leb (b .start + b .len) terms k) at h
 
     pub inside-next : b .start + b .len ≤ terms → runsRule terms (map boundRun (drop (i + 1) (records bindingLayout w))) ≡ runsRule terms (map boundRun (records bindingLayout w))
     unfolding runsRule runRule records count
-    inside-next k = rw (record-next bindingLayout (length w / 5) w i lt e, le-leb (b .start + b .len) terms k) at h
+    inside-next k = rw (record-next bindingLayout (bindingsIn w) w i lt e, le-leb (b .start + b .len) terms k) at h
 
 -- ---- each binding's rule, and no name repeated ----
 
 -- What the loop over the bindings holds: the texts of those passed lie in the names, and what is left comes to the same as all of them.
 pub record Naming (names w : List ℕ) (i : ℕ) : Type 0 where
-  pub past : i ≤ length w / 5
+  pub past : i ≤ bindingsIn w
   pub texts : BindingTexts names w i
   pub rest : bindingsRule names (drop i (records bindingLayout w)) (bindingNames names (decode bindingLayout i w)) ≡ bindingsRule names (records bindingLayout w) []
 
@@ -75,16 +70,16 @@ module _ (names w : List ℕ) where
   naming-start = record { past = omega arith; texts = λ j h. absurd (omega arith); rest = refl }
 
   module _ (i : ℕ) (now : Naming names w i) where
-    pub all-named : length w / 5 ≤ i → true ≡ bindingsRule names (records bindingLayout w) []
+    pub all-named : bindingsIn w ≤ i → true ≡ bindingsRule names (records bindingLayout w) []
     unfolding records count bindingsRule
-    all-named h = rw (records-done bindingLayout (length w / 5) w i (omega (arith, now .past))) at (now .rest)
+    all-named h = rw (records-done bindingLayout (bindingsIn w) w i (omega (arith, now .past))) at (now .rest)
 
     -- binding i is b
-    module _ {b : Binding} (lt : i < length w / 5) (e : b ≡ recordAt bindingLayout w i) where
+    module _ {b : Binding} (lt : i < bindingsIn w) (e : b ≡ recordAt bindingLayout w i) where
       step : bindingRule names b && leb i (find (bindingName names b) (bindingNames names (decode bindingLayout i w)))
           && bindingsRule names (drop (i + 1) (records bindingLayout w)) (bindingNames names (decode bindingLayout (i + 1) w)) ≡ bindingsRule names (records bindingLayout w) []
       unfolding records count bindingsRule
-      step = rw (record-next bindingLayout (length w / 5) w i lt e, bindings-length names w i, names-more names w i e) at (now .rest)
+      step = rw (record-next bindingLayout (bindingsIn w) w i lt e, bindings-length names w i, names-more names w i e) at (now .rest)
 
       pub bad-binding : bindingRule names b ≡ false → false ≡ bindingsRule names (records bindingLayout w) []
       bad-binding h = rw h at step

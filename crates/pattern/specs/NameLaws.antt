@@ -4,10 +4,10 @@ use mathlib.Core.List.{List, [], _∷_, _++_}
 use mathlib.Core.Bool.{true, false}
 use lib.ListN.{length, getD, take, drop, length-map}
 use lib.Seq.{getD-take, drop-length, length-take-le}
-use Prim.Native.Nat.{ℕ, suc, _+_, _*_, _/_, _<_, _≤_}
+use Prim.Native.Nat.{ℕ, suc, _+_, _<_, _≤_}
 use native.Mathlib.Omega.{arith}
 use Rattle.term_spec.specs.ListLaws.{entry-next, map-next}
-use Rattle.term_spec.specs.Words.{decode, recordAt, count, records}
+use Rattle.term_spec.specs.Words.{Lies, decode, recordAt, count, records}
 use Rattle.term_spec.specs.WordsLaws.{decode-length, record-next}
 use Rattle.term_spec.specs.Text.{textAt}
 use Rattle.term_spec.specs.Value.{isYes, canon}
@@ -15,7 +15,7 @@ use Rattle.term_spec.specs.ValueLaws.{is-no, alike}
 use Rattle.text.specs.Texts.{identifiersEqual}
 use Rattle.match_spec.specs.Pattern.{Item, itemLayout, Binding, bindingLayout, Name, nameAt, name?, findHere, find, bindingName, bindingNames}
 use Rattle.match_spec.specs.NameLaws.{find-le, find-kept}
-use Rattle.pattern.specs.Records.{sameName, itemName, firstNames, tableAt, BindingTexts, ItemTexts}
+use Rattle.pattern.specs.Records.{bindingsIn, sameName, itemName, firstNames, tableAt, BindingTexts, ItemTexts}
 
 -- ---- when two names are one ----
 
@@ -101,7 +101,7 @@ module _ (names w firsts : List ℕ) (n : ℕ) (fits : n ≤ length firsts) wher
       ∙ rw (getD-take n firsts i 0 h, ← e, ← q) refl
 
 module _ (names w firsts : List ℕ) (n i : ℕ) {j : ℕ} (h : ItemTexts names w firsts n) (lt : i < n) (e : j ≡ getD firsts i 0) where
-  pub first-inside : j * 4 + 4 ≤ length w
+  pub first-inside : Lies itemLayout w (j + 1)
   unfolding ItemTexts
   first-inside = rw e (h i lt .0)
 
@@ -111,14 +111,16 @@ module _ (names w firsts : List ℕ) (n i : ℕ) {j : ℕ} (h : ItemTexts names 
 
 -- ---- the whole table ----
 
-module _ (names w bindings firsts : List ℕ) (x : Name) {at : ℕ} (e : at ≡ find x (bindingNames names (decode bindingLayout (length bindings / 5) bindings))) where
-  pub in-bindings : at < length bindings / 5 → at ≡ find x (tableAt names w bindings firsts)
+module _ (names w bindings firsts : List ℕ) (x : Name) {at : ℕ} (e : at ≡ find x (bindingNames names (decode bindingLayout (bindingsIn bindings) bindings))) where
+  pub in-bindings : at < bindingsIn bindings → at ≡ find x (tableAt names w bindings firsts)
   unfolding records count
-  in-bindings h = e ∙ sym (find-kept x (bindingNames names (decode bindingLayout (length bindings / 5) bindings)) (firstNames names w firsts) (rw (bindings-length names bindings (length bindings / 5), ← e) h))
+  in-bindings h =
+      let b : List Name = bindingNames names (decode bindingLayout (bindingsIn bindings) bindings) in
+      e ∙ sym (find-kept x b (firstNames names w firsts) (rw (bindings-length names bindings (bindingsIn bindings), ← e) h))
 
-  pub in-firsts : {k : ℕ} → length bindings / 5 ≤ at → k ≡ find x (firstNames names w firsts) → length bindings / 5 + k ≡ find x (tableAt names w bindings firsts)
+  pub in-firsts : {k : ℕ} → bindingsIn bindings ≤ at → k ≡ find x (firstNames names w firsts) → bindingsIn bindings + k ≡ find x (tableAt names w bindings firsts)
   unfolding records count
   in-firsts {k} h q =
-      let b : List Name = bindingNames names (decode bindingLayout (length bindings / 5) bindings) in
-      let l : length b ≡ length bindings / 5 = bindings-length names bindings (length bindings / 5) in
+      let b : List Name = bindingNames names (decode bindingLayout (bindingsIn bindings) bindings) in
+      let l : length b ≡ bindingsIn bindings = bindings-length names bindings (bindingsIn bindings) in
       omega (arith, find-past x b (firstNames names w firsts) (omega (arith, find-le x b)))

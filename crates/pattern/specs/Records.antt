@@ -4,15 +4,22 @@ use mathlib.Core.List.{List, [], _∷_, _++_, map}
 use mathlib.Core.Bool.{Bool, _&&_}
 use lib.Dec.{leb}
 use lib.ListN.{length, getD}
-use Prim.Native.Nat.{ℕ, _+_, _*_, _<_, _≤_}
-use Rattle.term_spec.specs.Words.{recordAt, records}
+use Prim.Native.Nat.{ℕ, _+_, _/_, _<_, _≤_}
+use Rattle.term_spec.specs.Words.{Lies, recordAt, records}
 use Rattle.term_spec.specs.Value.{isYes}
 use Rattle.match_spec.specs.Element.{Element, lit, opening, closing, call, one, many}
-use Rattle.match_spec.specs.Pattern.{Item as SpecItem, itemLayout, bindingLayout, Name, nameAt, name?, bindingNames, find, add}
+use Rattle.match_spec.specs.Pattern.{Item as SpecItem, itemLayout, symbolVariableKind, expressionVariableKind, bindingLayout, Name, nameAt, name?, bindingNames, find, add}
 
--- The kinds 5 to 7.
+-- The records of a slice, as the code counts them.
+abbrev pub itemsIn : List ℕ → ℕ
+itemsIn w = length w / itemLayout .width
+
+abbrev pub bindingsIn : List ℕ → ℕ
+bindingsIn w = length w / bindingLayout .width
+
+-- The kinds of variables.
 abbrev pub variable : ℕ → Bool
-variable k = leb 5 k && leb k 7
+variable k = leb symbolVariableKind k && leb k expressionVariableKind
 
 -- Whether two names are one.
 abbrev pub sameName : Name → Name → Bool
@@ -38,7 +45,7 @@ BindingTexts names w n = (j : ℕ) → j < n → (recordAt bindingLayout w j) .o
 unfoldable pub ItemTexts : List ℕ → List ℕ → List ℕ → ℕ → Type 0
 ItemTexts names w firsts n =
     (j : ℕ) → j < n
-    → (getD firsts j 0 * 4 + 4 ≤ length w) × ((recordAt itemLayout w (getD firsts j 0)) .a + (recordAt itemLayout w (getD firsts j 0)) .b ≤ length names)
+    → Lies itemLayout w (getD firsts j 0 + 1) × ((recordAt itemLayout w (getD firsts j 0)) .a + (recordAt itemLayout w (getD firsts j 0)) .b ≤ length names)
 
 -- The number of each record's name, t being the names before it; 0 where a record has none.
 unfoldable pub numbersOf : List (Element Name) → List Name → List ℕ

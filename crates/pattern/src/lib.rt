@@ -9,9 +9,10 @@ ghost use mathlib.Core.Bool.{_&&_};
 ghost use Prim.Native.Nat.{ℕ, _+_, _*_, _<_, _≤_, min};
 ghost use lib.Dec.{T, eqb};
 ghost use lib.ListN.{length, take};
-ghost use Rattle.term_spec.specs.Words.{recordAt, decode, records, count};
+ghost use Rattle.term_spec.specs.Words.{Lies, AtMost, recordAt, decode, records, count};
 ghost use Rattle.term_spec.specs.Term.{runsRule};
-ghost use Rattle.match_spec.specs.Pattern.{itemLayout, bindingLayout, boundRun, elements, bindingNames, namesAfter, nameAt, find, itemRuleK, patternRule, bindingRule, bindingsRule};
+ghost use Rattle.match_spec.specs.Pattern.{itemLayout, callKind, patternLimit, nameLimit, elements, itemRuleK, patternRule};
+ghost use Rattle.match_spec.specs.Pattern.{bindingLayout, boundRun, bindingNames, namesAfter, nameAt, find, bindingRule, bindingsRule};
 ghost use Rattle.items.specs.Records.{asItem, asBinding};
 ghost use Rattle.pattern.specs.Records.{numbersOf, variable, sameName, itemName, firstNames, tableAt, BindingTexts, ItemTexts};
 
@@ -21,7 +22,7 @@ ghost use Rattle.pattern.specs.Records.{numbersOf, variable, sameName, i
 fn item_ok(names: &[u8], t: Item) -> bool
     ensures { λ r. ⌜ r ≡ itemRuleK (t .kind) (now (names .entry)) (asItem t) ⌝ }
 {
-    if t.kind < 3 {
+    if t.kind < items::OPEN {
         return value::symbol_ok(
             names,
             Term {
@@ -32,14 +33,14 @@ fn item_ok(names: &[u8], t: Item) -> bool
             },
         );
     }
-    if t.kind < 5 {
+    if t.kind < items::S_VARIABLE {
         if t.b != 0 {
             return false;
         }
         return t.c == 0;
     }
-    if t.kind < 8 {
-        if !text::text_ok(names, 3, t.a, t.b) {
+    if t.kind < items::CALL {
+        if !text::text_ok(names, text::NAME, t.a, t.b) {
             return false;
         }
         return t.c == 0;
@@ -49,10 +50,10 @@ fn item_ok(names: &[u8], t: Item) -> bool
 
 // A Call or Block has no words besides its kind.
 fn call_ok(t: Item) -> bool
-    requires { ⌜ 8 ≤ t .kind ⌝ }
+    requires { ⌜ callKind ≤ t .kind ⌝ }
     ensures { λ r. ⌜ ((names : List ℕ) → r ≡ itemRuleK (t .kind) names (asItem t)) ⌝ }
 {
-    if 9 < t.kind {
+    if items::BLOCK < t.kind {
         return false;
     }
     if t.a != 0 {
@@ -66,7 +67,7 @@ fn call_ok(t: Item) -> bool
 
 // Whether a Close at i with this a is the partner of the bracket opened at o: each has the other's number.
 fn closes(pattern: &[u32], a: usize, i: usize, o: usize) -> bool
-    requires { ⌜ o * 4 + 4 ≤ length (now pattern) ⌝ }
+    requires { ⌜ Lies itemLayout (now pattern) (o + 1) ⌝ }
     ensures { λ r. ⌜ r ≡ (eqb a o && eqb ((recordAt itemLayout (now (pattern .entry)) o) .a) i) ⌝ }
 {
     if a != o {
@@ -78,11 +79,11 @@ fn closes(pattern: &[u32], a: usize, i: usize, o: usize) -> bool
 
 // The rule of a pattern of at most 256 records. `opened` has the numbers of the brackets open before record i, innermost last.
 pub fn pattern_ok(names: &[u8], pattern: &[u32]) -> bool
-    requires { ⌜ length (now pattern) ≤ 1027 ⌝ }
+    requires { ⌜ AtMost itemLayout (now pattern) patternLimit ⌝ }
     ensures { λ r. ⌜ r ≡ patternRule (now (names .entry)) (records itemLayout (now (pattern .entry))) ⌝ }
 {
     let n = pattern.len() / items::ITEM_WIDTH;
-    let mut opened: [u32; 32] = [0; 32];
+    let mut opened: [u32; items::NESTING_LIMIT] = [0; items::NESTING_LIMIT];
     let mut depth: usize = 0;
     let mut i = 0;
     while i < n {
@@ -90,8 +91,8 @@ pub fn pattern_ok(names: &[u8], pattern: &[u32]) -> bool
         if !item_ok(names, t) {
             return false;
         }
-        if t.kind == 3 {
-            if 32 <= depth {
+        if t.kind == items::OPEN {
+            if items::NESTING_LIMIT <= depth {
                 return false;
             }
             words::set_word(&mut opened, depth, i);
@@ -99,7 +100,7 @@ pub fn pattern_ok(names: &[u8], pattern: &[u32]) -> bool
             i += 1;
             continue;
         }
-        if t.kind == 4 {
+        if t.kind == items::CLOSE {
             if depth == 0 {
                 return false;
             }
@@ -140,10 +141,10 @@ pub fn bindings_inside(bindings: &[u32], terms: usize) -> bool
 fn is_variable(kind: usize) -> bool
     ensures { λ r. ⌜ r ≡ variable kind ⌝ }
 {
-    if kind < 5 {
+    if kind < items::S_VARIABLE {
         return false;
     }
-    kind <= 7
+    kind <= items::E_VARIABLE
 }
 
 // Whether two names are one, each given by its kind and its text's offset and length.
@@ -174,8 +175,10 @@ fn find_binding(
     o: usize,
     n: usize,
 ) -> usize
-    requires { ⌜ (count * 5 ≤ length (now bindings)) × (o + n ≤ length (now names)) × BindingTexts (now names) (now bindings) count ⌝ }
-    ensures { λ r. ⌜ r ≡ find (nameAt (now (names .entry)) kind o n) (bindingNames (now (names .entry)) (decode bindingLayout count (now (bindings .entry)))) ⌝ }
+    requires { ⌜ (Lies bindingLayout (now bindings) count) × (o + n ≤ length (now names)) × BindingTexts (now names) (now bindings) count ⌝ }
+    ensures { λ r.
+        let text = now (names .entry) in
+        ⌜ r ≡ find (nameAt text kind o n) (bindingNames text (decode bindingLayout count (now (bindings .entry)))) ⌝ }
 {
     let mut i = 0;
     while i < count {
@@ -195,7 +198,7 @@ fn binding_ok(names: &[u8], b: Binding) -> bool
     if !is_variable(b.kind) {
         return false;
     }
-    text::text_ok(names, 3, b.offset, b.size)
+    text::text_ok(names, text::NAME, b.offset, b.size)
 }
 
 // Each binding has a variable's kind and name, and no name is repeated.
@@ -222,7 +225,9 @@ pub fn bindings_ok(names: &[u8], bindings: &[u32]) -> bool
 // The place of a name among the records that the first `count` of `firsts` number, `count` if it is not there.
 fn find_first(names: &[u8], pattern: &[u32], firsts: &[u32], count: usize, t: Item) -> usize
     requires { ⌜ (count ≤ length (now firsts)) × (t .a + t .b ≤ length (now names)) × ItemTexts (now names) (now pattern) (now firsts) count ⌝ }
-    ensures { λ r. ⌜ r ≡ find (itemName (now (names .entry)) (asItem t)) (firstNames (now (names .entry)) (now (pattern .entry)) (take count (now (firsts .entry)))) ⌝ }
+    ensures { λ r.
+        let text = now (names .entry) in
+        ⌜ r ≡ find (itemName text (asItem t)) (firstNames text (now (pattern .entry)) (take count (now (firsts .entry)))) ⌝ }
 {
     let mut i = 0;
     while i < count {
@@ -245,8 +250,12 @@ fn find_name(
     t: Item,
 ) -> usize
     requires { ⌜ (new ≤ length (now firsts)) × (t .a + t .b ≤ length (now names)) × ItemTexts (now names) (now pattern) (now firsts) new ⌝ }
-    requires { ⌜ (length (now bindings) ≤ 324) × (new ≤ 64) × BindingTexts (now names) (now bindings) (count bindingLayout (now bindings)) ⌝ }
-    ensures { λ r. ⌜ r ≡ find (itemName (now (names .entry)) (asItem t)) (tableAt (now (names .entry)) (now (pattern .entry)) (now (bindings .entry)) (take new (now (firsts .entry)))) ⌝ }
+    requires { ⌜ (AtMost bindingLayout (now bindings) nameLimit) × (new ≤ nameLimit)
+        × BindingTexts (now names) (now bindings) (count bindingLayout (now bindings)) ⌝ }
+    ensures { λ r.
+        let text = now (names .entry) in
+        let table = tableAt text (now (pattern .entry)) (now (bindings .entry)) (take new (now (firsts .entry))) in
+        ⌜ r ≡ find (itemName text (asItem t)) table ⌝ }
 {
     let start = bindings.len() / items::BINDING_WIDTH;
     let at = find_binding(names, bindings, start, t.kind, t.a, t.b);
@@ -256,16 +265,25 @@ fn find_name(
     start + find_first(names, pattern, firsts, new, t)
 }
 
+// What stands for more names than there may be.
+const TOO_MANY: usize = items::NAME_LIMIT + 1;
+
 // Numbers each variable of the pattern: the start's names first, then first occurrence; other records get 0. Hands back how many names there
 // are, 65 if they are over 64 (then the numbers mean nothing). `firsts` has the numbers of the records that brought the new names.
 pub fn number_names(names: &[u8], pattern: &[u32], bindings: &[u32], numbers: &mut [u32]) -> usize
-    requires { ⌜ (length (now pattern) ≤ 1027) × (length (now bindings) ≤ 324) × (256 ≤ length (now numbers)) ⌝ }
-    requires { ⌜ T (patternRule (now names) (records itemLayout (now pattern))) × T (bindingsRule (now names) (records bindingLayout (now bindings)) []) ⌝ }
-    ensures { λ r. ⌜ (r ≡ min 65 (length (namesAfter (elements (now (names .entry)) (records itemLayout (now (pattern .entry)))) (bindingNames (now (names .entry)) (records bindingLayout (now (bindings .entry))))))) × (r ≤ 64 → take (count itemLayout (now (pattern .entry))) (now (numbers .exit)) ≡ numbersOf (elements (now (names .entry)) (records itemLayout (now (pattern .entry)))) (bindingNames (now (names .entry)) (records bindingLayout (now (bindings .entry))))) ⌝ }
+    requires { ⌜ (AtMost itemLayout (now pattern) patternLimit) × (AtMost bindingLayout (now bindings) nameLimit)
+        × (patternLimit ≤ length (now numbers)) ⌝ }
+    requires { ⌜ T (patternRule (now names) (records itemLayout (now pattern)))
+        × T (bindingsRule (now names) (records bindingLayout (now bindings)) []) ⌝ }
+    ensures { λ r.
+        let parts = elements (now (names .entry)) (records itemLayout (now (pattern .entry))) in
+        let start = bindingNames (now (names .entry)) (records bindingLayout (now (bindings .entry))) in
+        ⌜ (r ≡ min (nameLimit + 1) (length (namesAfter parts start)))
+        × (r ≤ nameLimit → take (count itemLayout (now (pattern .entry))) (now (numbers .exit)) ≡ numbersOf parts start) ⌝ }
 {
     let n = pattern.len() / items::ITEM_WIDTH;
     let start = bindings.len() / items::BINDING_WIDTH;
-    let mut firsts: [u32; 64] = [0; 64];
+    let mut firsts: [u32; items::NAME_LIMIT] = [0; items::NAME_LIMIT];
     let mut new: usize = 0;
     let mut i = 0;
     while i < n {
@@ -276,8 +294,8 @@ pub fn number_names(names: &[u8], pattern: &[u32], bindings: &[u32], numbers: &m
             continue;
         }
         let at = find_name(names, pattern, bindings, &firsts, new, t);
-        if 64 <= at {
-            return 65;
+        if items::NAME_LIMIT <= at {
+            return TOO_MANY;
         }
         words::set_word(numbers, i, at);
         if start + new <= at {

@@ -2,15 +2,16 @@
 use view::Field;
 ghost use mathlib.Core.Path.{_≡_};
 ghost use Rattle.match_spec.specs.Answer.{allOfThem, headOnly};
-ghost use Rattle.calls_spec.specs.Step.{callFromRuns, callJoin, callTake, callRest, callRange, callStartsWith, callEqual, callFlatten, callMatch, step, nameCount};
+ghost use Rattle.calls_spec.specs.Step.{callFromRuns, callJoin, callTake, callRest, callRange};
+ghost use Rattle.calls_spec.specs.Step.{callStartsWith, callEqual, callFlatten, callMatch, step, nameCount};
 ghost use Rattle.equality.specs.Compare.{comparedRuns};
 ghost use Rattle.view.specs.Check.{storeOf};
 ghost use Rattle.listing.specs.Match.{requestOf};
 ghost use Rattle.sheet_spec.specs.Sheet.{countsAt, readSheet};
 ghost use Rattle.sheet_spec.specs.Job.{written as writtenText, writtenSheet, readInto, answerText};
 ghost use Rattle.sheet_write.specs.Write.{sheetOf};
-ghost use Rattle.told.specs.Told.{comparedTold};
-ghost use Rattle.told.specs.SheetTold.{afterWrite, afterRead};
+ghost use Rattle.outputs.specs.Outputs.{comparedOut};
+ghost use Rattle.outputs.specs.SheetOutputs.{readOuts, afterWrite, afterRead};
 ghost use Rattle.refal.specs.Export.{fieldOf, afterField, afterTruth, afterFlat, afterList};
 
 // ---- calls that build a field ----
@@ -27,10 +28,14 @@ pub extern "C" fn naldrev_from_runs(
     node: &mut usize,
     len: &mut usize,
 ) -> usize
-    ensures { λ r. ⌜ ((r, now (node .exit), now (len .exit)), storeOf (now (names .entry)) (now (terms .entry)) «terms_used» (now (nodes .exit)) (now («nodes_used» .exit))) ≡ afterField (step (storeOf (now (names .entry)) (now (terms .entry)) «terms_used» (now (nodes .entry)) (now («nodes_used» .entry))) (callFromRuns (now (runs .entry)))) (now (node .entry)) (now (len .entry)) ⌝ }
+    ensures { λ r.
+        let before = storeOf (now (names .entry)) (now (terms .entry)) «terms_used» (now (nodes .entry)) (now («nodes_used» .entry)) in
+        let after = storeOf (now (names .entry)) (now (terms .entry)) «terms_used» (now (nodes .exit)) (now («nodes_used» .exit)) in
+        let did = step before (callFromRuns (now (runs .entry))) in
+        ⌜ ((r, now (node .exit), now (len .exit)), after) ≡ afterField did (now (node .entry)) (now (len .entry)) ⌝ }
 {
     let chained = view::from_runs(names, terms, terms_used, nodes, nodes_used, runs);
-    told::tell_field(chained, node, len)
+    outputs::put_field(chained, node, len)
 }
 
 // Two fields as one: the left's terms, then the right's.
@@ -48,7 +53,11 @@ pub extern "C" fn naldrev_join(
     node: &mut usize,
     len: &mut usize,
 ) -> usize
-    ensures { λ r. ⌜ ((r, now (node .exit), now (len .exit)), storeOf (now (names .entry)) (now (terms .entry)) «terms_used» (now (nodes .exit)) (now («nodes_used» .exit))) ≡ afterField (step (storeOf (now (names .entry)) (now (terms .entry)) «terms_used» (now (nodes .entry)) (now («nodes_used» .entry))) (callJoin (fieldOf «left_node» «left_len») (fieldOf «right_node» «right_len»))) (now (node .entry)) (now (len .entry)) ⌝ }
+    ensures { λ r.
+        let before = storeOf (now (names .entry)) (now (terms .entry)) «terms_used» (now (nodes .entry)) (now («nodes_used» .entry)) in
+        let after = storeOf (now (names .entry)) (now (terms .entry)) «terms_used» (now (nodes .exit)) (now («nodes_used» .exit)) in
+        let did = step before (callJoin (fieldOf «left_node» «left_len») (fieldOf «right_node» «right_len»)) in
+        ⌜ ((r, now (node .exit), now (len .exit)), after) ≡ afterField did (now (node .entry)) (now (len .entry)) ⌝ }
 {
     let left = Field {
         node: left_node,
@@ -59,7 +68,7 @@ pub extern "C" fn naldrev_join(
         len: right_len,
     };
     let joined = view::join(names, terms, terms_used, nodes, nodes_used, left, right);
-    told::tell_field(joined, node, len)
+    outputs::put_field(joined, node, len)
 }
 
 // The first count terms of a field.
@@ -76,14 +85,17 @@ pub extern "C" fn naldrev_take(
     node: &mut usize,
     len: &mut usize,
 ) -> usize
-    ensures { λ r. ⌜ ((r, now (node .exit), now (len .exit)), storeOf (now (names .entry)) (now (terms .entry)) «terms_used» (now (nodes .entry)) «nodes_used») ≡ afterField (step (storeOf (now (names .entry)) (now (terms .entry)) «terms_used» (now (nodes .entry)) «nodes_used») (callTake (fieldOf «field_node» «field_len») count)) (now (node .entry)) (now (len .entry)) ⌝ }
+    ensures { λ r.
+        let before = storeOf (now (names .entry)) (now (terms .entry)) «terms_used» (now (nodes .entry)) «nodes_used» in
+        let did = step before (callTake (fieldOf «field_node» «field_len») count) in
+        ⌜ ((r, now (node .exit), now (len .exit)), before) ≡ afterField did (now (node .entry)) (now (len .entry)) ⌝ }
 {
     let f = Field {
         node: field_node,
         len: field_len,
     };
     let taken = view::take(names, terms, terms_used, nodes, nodes_used, f, count);
-    told::tell_field(taken, node, len)
+    outputs::put_field(taken, node, len)
 }
 
 // A field without its first count terms.
@@ -100,14 +112,18 @@ pub extern "C" fn naldrev_rest(
     node: &mut usize,
     len: &mut usize,
 ) -> usize
-    ensures { λ r. ⌜ ((r, now (node .exit), now (len .exit)), storeOf (now (names .entry)) (now (terms .entry)) «terms_used» (now (nodes .exit)) (now («nodes_used» .exit))) ≡ afterField (step (storeOf (now (names .entry)) (now (terms .entry)) «terms_used» (now (nodes .entry)) (now («nodes_used» .entry))) (callRest (fieldOf «field_node» «field_len») count)) (now (node .entry)) (now (len .entry)) ⌝ }
+    ensures { λ r.
+        let before = storeOf (now (names .entry)) (now (terms .entry)) «terms_used» (now (nodes .entry)) (now («nodes_used» .entry)) in
+        let after = storeOf (now (names .entry)) (now (terms .entry)) «terms_used» (now (nodes .exit)) (now («nodes_used» .exit)) in
+        let did = step before (callRest (fieldOf «field_node» «field_len») count) in
+        ⌜ ((r, now (node .exit), now (len .exit)), after) ≡ afterField did (now (node .entry)) (now (len .entry)) ⌝ }
 {
     let f = Field {
         node: field_node,
         len: field_len,
     };
     let dropped = view::rest(names, terms, terms_used, nodes, nodes_used, f, count);
-    told::tell_field(dropped, node, len)
+    outputs::put_field(dropped, node, len)
 }
 
 // count terms of a field after its first start.
@@ -125,14 +141,18 @@ pub extern "C" fn naldrev_range(
     node: &mut usize,
     len: &mut usize,
 ) -> usize
-    ensures { λ r. ⌜ ((r, now (node .exit), now (len .exit)), storeOf (now (names .entry)) (now (terms .entry)) «terms_used» (now (nodes .exit)) (now («nodes_used» .exit))) ≡ afterField (step (storeOf (now (names .entry)) (now (terms .entry)) «terms_used» (now (nodes .entry)) (now («nodes_used» .entry))) (callRange (fieldOf «field_node» «field_len») start count)) (now (node .entry)) (now (len .entry)) ⌝ }
+    ensures { λ r.
+        let before = storeOf (now (names .entry)) (now (terms .entry)) «terms_used» (now (nodes .entry)) (now («nodes_used» .entry)) in
+        let after = storeOf (now (names .entry)) (now (terms .entry)) «terms_used» (now (nodes .exit)) (now («nodes_used» .exit)) in
+        let did = step before (callRange (fieldOf «field_node» «field_len») start count) in
+        ⌜ ((r, now (node .exit), now (len .exit)), after) ≡ afterField did (now (node .entry)) (now (len .entry)) ⌝ }
 {
     let f = Field {
         node: field_node,
         len: field_len,
     };
     let ranged = view::range(names, terms, terms_used, nodes, nodes_used, f, start, count);
-    told::tell_field(ranged, node, len)
+    outputs::put_field(ranged, node, len)
 }
 
 // ---- calls that read ----
@@ -151,7 +171,10 @@ pub extern "C" fn naldrev_starts_with(
     front_len: usize,
     yes: &mut usize,
 ) -> usize
-    ensures { λ r. ⌜ ((r, now (yes .exit)), storeOf (now (names .entry)) (now (terms .entry)) «terms_used» (now (nodes .entry)) «nodes_used») ≡ afterTruth (step (storeOf (now (names .entry)) (now (terms .entry)) «terms_used» (now (nodes .entry)) «nodes_used») (callStartsWith (fieldOf «field_node» «field_len») (fieldOf «front_node» «front_len»))) (now (yes .entry)) ⌝ }
+    ensures { λ r.
+        let before = storeOf (now (names .entry)) (now (terms .entry)) «terms_used» (now (nodes .entry)) «nodes_used» in
+        let did = step before (callStartsWith (fieldOf «field_node» «field_len») (fieldOf «front_node» «front_len»)) in
+        ⌜ ((r, now (yes .exit)), before) ≡ afterTruth did (now (yes .entry)) ⌝ }
 {
     let f = Field {
         node: field_node,
@@ -162,7 +185,7 @@ pub extern "C" fn naldrev_starts_with(
         len: front_len,
     };
     let starts = view_read::starts_with(names, terms, terms_used, nodes, nodes_used, f, front);
-    told::tell_truth(starts, yes)
+    outputs::put_truth(starts, yes)
 }
 
 // Whether two fields hold equal terms: yes is 1 or 0.
@@ -179,7 +202,10 @@ pub extern "C" fn naldrev_equal(
     right_len: usize,
     yes: &mut usize,
 ) -> usize
-    ensures { λ r. ⌜ ((r, now (yes .exit)), storeOf (now (names .entry)) (now (terms .entry)) «terms_used» (now (nodes .entry)) «nodes_used») ≡ afterTruth (step (storeOf (now (names .entry)) (now (terms .entry)) «terms_used» (now (nodes .entry)) «nodes_used») (callEqual (fieldOf «left_node» «left_len») (fieldOf «right_node» «right_len»))) (now (yes .entry)) ⌝ }
+    ensures { λ r.
+        let before = storeOf (now (names .entry)) (now (terms .entry)) «terms_used» (now (nodes .entry)) «nodes_used» in
+        let did = step before (callEqual (fieldOf «left_node» «left_len») (fieldOf «right_node» «right_len»)) in
+        ⌜ ((r, now (yes .exit)), before) ≡ afterTruth did (now (yes .entry)) ⌝ }
 {
     let left = Field {
         node: left_node,
@@ -190,7 +216,7 @@ pub extern "C" fn naldrev_equal(
         len: right_len,
     };
     let same = view_read::equal(names, terms, terms_used, nodes, nodes_used, left, right);
-    told::tell_truth(same, yes)
+    outputs::put_truth(same, yes)
 }
 
 // A field's terms as one run: of the term store (in_work 0), or the first count records of the work buffer (in_work 1, start 0).
@@ -208,14 +234,18 @@ pub extern "C" fn naldrev_flatten(
     start: &mut usize,
     count: &mut usize,
 ) -> usize
-    ensures { λ r. ⌜ ((r, now («in_work» .exit), now (start .exit), now (count .exit)), storeOf (now (names .entry)) (now (terms .entry)) «terms_used» (now (nodes .entry)) «nodes_used», now (work .exit)) ≡ afterFlat (step (storeOf (now (names .entry)) (now (terms .entry)) «terms_used» (now (nodes .entry)) «nodes_used») (callFlatten (fieldOf «field_node» «field_len») (now (work .entry)))) (now («in_work» .entry)) (now (start .entry)) (now (count .entry)) ⌝ }
+    ensures { λ r.
+        let before = storeOf (now (names .entry)) (now (terms .entry)) «terms_used» (now (nodes .entry)) «nodes_used» in
+        let did = step before (callFlatten (fieldOf «field_node» «field_len») (now (work .entry))) in
+        let told = afterFlat did (now («in_work» .entry)) (now (start .entry)) (now (count .entry)) in
+        ⌜ ((r, now («in_work» .exit), now (start .exit), now (count .exit)), before, now (work .exit)) ≡ told ⌝ }
 {
     let f = Field {
         node: field_node,
         len: field_len,
     };
     let flat = view_read::flatten(names, terms, terms_used, nodes, nodes_used, f, work);
-    told::tell_flat(flat, in_work, start, count)
+    outputs::put_flat(flat, in_work, start, count)
 }
 
 // Whether two runs of the term store hold equal terms: yes is 1 or 0.
@@ -230,7 +260,9 @@ pub extern "C" fn naldrev_compare_runs(
     second_len: usize,
     yes: &mut usize,
 ) -> usize
-    ensures { λ r. ⌜ (r, now (yes .exit)) ≡ comparedTold (comparedRuns (now (names .entry)) (now (terms .entry)) «terms_used» «first_start» «first_len» «second_start» «second_len») (now (yes .entry)) ⌝ }
+    ensures { λ r.
+        let compared = comparedRuns (now (names .entry)) (now (terms .entry)) «terms_used» «first_start» «first_len» «second_start» «second_len» in
+        ⌜ (r, now (yes .exit)) ≡ comparedOut compared (now (yes .entry)) ⌝ }
 {
     let compared = equality::compare_runs(
         names,
@@ -241,7 +273,7 @@ pub extern "C" fn naldrev_compare_runs(
         second_start,
         second_len,
     );
-    told::tell_compared(compared, yes)
+    outputs::put_compared(compared, yes)
 }
 
 // ---- matching ----
@@ -270,7 +302,12 @@ pub extern "C" fn naldrev_match_pattern_with_bindings_candidates(
     count: &mut usize,
     entries: &mut usize,
 ) -> usize
-    ensures { λ r. ⌜ ((r, now (count .exit), now (entries .exit)), storeOf (now (names .entry)) (now (terms .exit)) (now («terms_used» .exit)) (now (nodes .entry)) «nodes_used», now (slots .exit)) ≡ afterList (step (storeOf (now (names .entry)) (now (terms .entry)) (now («terms_used» .entry)) (now (nodes .entry)) «nodes_used») (callMatch allOfThem (requestOf (fieldOf «field_node» «field_len») (now (pattern .entry)) (now (bindings .entry)) (now (slots .entry))))) (now (count .entry)) (now (entries .entry)) ⌝ }
+    ensures { λ r.
+        let before = storeOf (now (names .entry)) (now (terms .entry)) (now («terms_used» .entry)) (now (nodes .entry)) «nodes_used» in
+        let after = storeOf (now (names .entry)) (now (terms .exit)) (now («terms_used» .exit)) (now (nodes .entry)) «nodes_used» in
+        let request = requestOf (fieldOf «field_node» «field_len») (now (pattern .entry)) (now (bindings .entry)) (now (slots .entry)) in
+        let did = step before (callMatch allOfThem request) in
+        ⌜ ((r, now (count .exit), now (entries .exit)), after, now (slots .exit)) ≡ afterList did (now (count .entry)) (now (entries .entry)) ⌝ }
 {
     let f = Field {
         node: field_node,
@@ -287,7 +324,7 @@ pub extern "C" fn naldrev_match_pattern_with_bindings_candidates(
         bindings,
         slots,
     );
-    told::tell_list(listed, count, entries)
+    outputs::put_list(listed, count, entries)
 }
 
 // The first candidate alone: the head of that list.
@@ -306,7 +343,12 @@ pub extern "C" fn naldrev_match_pattern_first(
     count: &mut usize,
     entries: &mut usize,
 ) -> usize
-    ensures { λ r. ⌜ ((r, now (count .exit), now (entries .exit)), storeOf (now (names .entry)) (now (terms .exit)) (now («terms_used» .exit)) (now (nodes .entry)) «nodes_used», now (slots .exit)) ≡ afterList (step (storeOf (now (names .entry)) (now (terms .entry)) (now («terms_used» .entry)) (now (nodes .entry)) «nodes_used») (callMatch headOnly (requestOf (fieldOf «field_node» «field_len») (now (pattern .entry)) (now (bindings .entry)) (now (slots .entry))))) (now (count .entry)) (now (entries .entry)) ⌝ }
+    ensures { λ r.
+        let before = storeOf (now (names .entry)) (now (terms .entry)) (now («terms_used» .entry)) (now (nodes .entry)) «nodes_used» in
+        let after = storeOf (now (names .entry)) (now (terms .exit)) (now («terms_used» .exit)) (now (nodes .entry)) «nodes_used» in
+        let request = requestOf (fieldOf «field_node» «field_len») (now (pattern .entry)) (now (bindings .entry)) (now (slots .entry)) in
+        let did = step before (callMatch headOnly request) in
+        ⌜ ((r, now (count .exit), now (entries .exit)), after, now (slots .exit)) ≡ afterList did (now (count .entry)) (now (entries .entry)) ⌝ }
 {
     let f = Field {
         node: field_node,
@@ -323,7 +365,7 @@ pub extern "C" fn naldrev_match_pattern_first(
         bindings,
         slots,
     );
-    told::tell_list(head, count, entries)
+    outputs::put_list(head, count, entries)
 }
 
 // ---- sheets ----
@@ -341,9 +383,16 @@ pub extern "C" fn naldrev_read_sheet(
     pattern_count: &mut usize,
     run_count: &mut usize,
 ) -> usize
-    ensures { λ r. ⌜ ((r, now («term_count» .exit), now («name_start» .exit), now («name_count» .exit), now («pattern_count» .exit), now («run_count» .exit)), now (terms .exit), now (pattern .exit), now (runs .exit)) ≡ afterRead (readInto (readSheet (now (text .entry))) (countsAt (now (text .entry))) (now (terms .entry)) (now (pattern .entry)) (now (runs .entry))) (now («term_count» .entry)) (now («name_start» .entry)) (now («name_count» .entry)) (now («pattern_count» .entry)) (now («run_count» .entry)) ⌝ }
+    ensures { λ r.
+        let before3 = readOuts (now («term_count» .entry)) (now («name_start» .entry)) (now («name_count» .entry)) in
+        let before = before3 (now («pattern_count» .entry)) (now («run_count» .entry)) in
+        let after3 = readOuts (now («term_count» .exit)) (now («name_start» .exit)) (now («name_count» .exit)) in
+        let after = after3 (now («pattern_count» .exit)) (now («run_count» .exit)) in
+        let read = readInto (readSheet (now (text .entry))) (countsAt (now (text .entry))) in
+        let words = read (now (terms .entry)) (now (pattern .entry)) (now (runs .entry)) in
+        ⌜ ((r, after), now (terms .exit), now (pattern .exit), now (runs .exit)) ≡ afterRead words before ⌝ }
 {
-    told::read_sheet(
+    outputs::read_sheet(
         text,
         terms,
         pattern,
@@ -366,17 +415,21 @@ pub extern "C" fn naldrev_write_sheet(
     out: &mut [u8],
     written: &mut usize,
 ) -> usize
-    ensures { λ r. ⌜ ((r, now (written .exit)), now (out .exit)) ≡ afterWrite (writtenSheet (sheetOf (now (terms .entry)) (now (names .entry)) (now (pattern .entry)) (now (runs .entry))) (now (out .entry))) (now (written .entry)) ⌝ }
+    ensures { λ r.
+        let sheet = sheetOf (now (terms .entry)) (now (names .entry)) (now (pattern .entry)) (now (runs .entry)) in
+        ⌜ ((r, now (written .exit)), now (out .exit)) ≡ afterWrite (writtenSheet sheet (now (out .entry))) (now (written .entry)) ⌝ }
 {
     let wrote = sheet_write::write_sheet(terms, names, pattern, runs, out);
-    told::tell_written(wrote, written)
+    outputs::put_written(wrote, written)
 }
 
 // What the program `sheet` prints for a text.
 #[no_mangle]
 pub extern "C" fn naldrev_run_sheet(text: &[u8], out: &mut [u8], written: &mut usize) -> usize
-    ensures { λ r. ⌜ ((r, now (written .exit)), now (out .exit)) ≡ afterWrite (writtenText (answerText (now (text .entry))) (now (out .entry))) (now (written .entry)) ⌝ }
+    ensures { λ r.
+        let printed = writtenText (answerText (now (text .entry))) (now (out .entry)) in
+        ⌜ ((r, now (written .exit)), now (out .exit)) ≡ afterWrite printed (now (written .entry)) ⌝ }
 {
     let ran = sheet_job::run_sheet(text, out);
-    told::tell_written(ran, written)
+    outputs::put_written(ran, written)
 }

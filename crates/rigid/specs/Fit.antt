@@ -1,17 +1,31 @@
 -- What a record of a rigid run does at the terms ahead.
 use mathlib.Core.Path.{_≡_}
-use mathlib.Core.List.{List}
+use mathlib.Core.List.{List, map}
 use mathlib.Core.Option.{Option, some, none}
 use mathlib.Core.Bool.{Bool, true, false}
-use lib.ListN.{getD}
+use lib.ListN.{getD, drop}
 use Prim.Native.Nat.{ℕ, suc, zero, _+_, _<_, _≤_}
 use Rattle.term_spec.specs.Words.{recordAt, count}
-use Rattle.term_spec.specs.Term.{Term, termLayout}
+use Rattle.term_spec.specs.Term.{Term, Run, termLayout, charKind}
 use Rattle.term_spec.specs.Value.{Value, char, values, contents, canon, same?, isYes, takes}
 use Rattle.match_spec.specs.Element.{Element, lit, opening, closing, call, one, many, canonE}
-use Rattle.match_spec.specs.Pattern.{Item, Name, itemLayout, element}
+use Rattle.match_spec.specs.Pattern.{Item, Name, itemLayout, element, closeKind}
+use Rattle.match_spec.specs.Walk.{rigidFits}
+use Rattle.steps.specs.State.{cellsIn, backOf, entriesIn, patternIn}
 use Rattle.rigid.specs.declared.Fit.{Fit}
 use Rattle.rigid.specs.declared.Fit.the-variants.{No, Ends, Takes}
+
+-- Whether the run p fits at the terms of r, with d brackets of it being passed over and the first m entries of `binds` known.
+abbrev pub fitsAt : List ℕ → List ℕ → ℕ → ℕ → List ℕ → List (Element ℕ) → ℕ → Run → Bool
+fitsAt names w used m binds p d r = rigidFits p d (map (cellsIn names w used) (entriesIn m binds)) (cellsIn names w used r)
+
+-- Whether the run from record p on fits at the terms of r.
+abbrev pub runFits : List ℕ → List ℕ → ℕ → List ℕ → List ℕ → ℕ → ℕ → List ℕ → Run → Bool
+runFits names w used pattern numbers p m binds r = fitsAt names w used m binds (drop p (patternIn names pattern numbers)) zero r
+
+-- Whether it fits after j terms of r.
+abbrev pub splitFits : List ℕ → List ℕ → ℕ → List ℕ → List ℕ → ℕ → ℕ → List ℕ → Run → ℕ → Bool
+splitFits names w used pattern numbers p m binds r j = runFits names w used pattern numbers p m binds (backOf j r)
 
 -- It takes no more terms than there are.
 abbrev pub FitIn : ℕ → Fit → Type 0
@@ -65,12 +79,12 @@ fitsTerm names ts t i = headFits (canonE (element names t)) (canon (getD (values
 -- A literal or an Open cannot fit a term: of another kind, or a Char of another value.
 pub data Apart (t : Item) (u : Term) : Type 0 where
   kinds : (u .kind ≡ t .kind → ⊥) → Apart t u
-  chars : t .kind ≡ 0 → (u .a ≡ t .a → ⊥) → Apart t u
+  chars : t .kind ≡ charKind → (u .a ≡ t .a → ⊥) → Apart t u
 
 -- So for record p of a pattern, which is there, and term i.
 pub record ApartAt (terms pattern : List ℕ) (p i : ℕ) : Type 0 where
   pub there : p < count itemLayout pattern
-  pub low : (recordAt itemLayout pattern p) .kind < 4
+  pub low : (recordAt itemLayout pattern p) .kind < closeKind
   pub apart : Apart (recordAt itemLayout pattern p) (recordAt termLayout terms i)
 
 -- The first number from k on at which f holds, of those up to n; n + 1 if there is none.

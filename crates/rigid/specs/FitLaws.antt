@@ -22,17 +22,13 @@ use Rattle.match_spec.specs.RunLaws.{back-shows}
 use Rattle.value.specs.Equal.{equalSymbols, equalRuns, valuesIn}
 use Rattle.value.specs.EqualLaws.{value-at}
 use Rattle.kinds.specs.Kinds.{takesTerm}
-use Rattle.steps.specs.State.{entriesIn, Known, renamed, coded, codedAll}
+use Rattle.steps.specs.State.{cellsIn, backOf, entriesIn, Known, renamed, coded, patternIn}
 use Rattle.steps.specs.CellLaws.{decided-is, literal-value, contents-no, contents-yes, takes-term, cells-size, cells-none, cells-next, strip-yes, strip-no, strip-long, run-begins, run-differs}
-use Rattle.steps.specs.StepLaws.{cellsIn, rest, entry-in, termOfItem, coded-close, coded-many, coded-call}
+use Rattle.steps.specs.StepLaws.{entry-in, termOfItem, coded-close, coded-many, coded-call}
 use Rattle.steps.specs.PatternAtLaws.{pattern-at, pattern-end, pattern-item}
 use Rattle.rigid.specs.declared.Fit.{Fit}
 use Rattle.rigid.specs.declared.Fit.the-variants.{No, Ends, Takes}
-use Rattle.rigid.specs.Fit.{fitGoes, FitIn, opensTo, skipsTo, isSome, headFits, fitsTerm}
-
--- Whether the run p fits at the terms of r, with d brackets of it being passed over and the first m entries of `binds` known.
-abbrev pub fitsAt : List ℕ → List ℕ → ℕ → ℕ → List ℕ → List (Element ℕ) → ℕ → Run → Bool
-fitsAt names w used m binds p d r = rigidFits p d (map (cellsIn names w used) (entriesIn m binds)) (cellsIn names w used r)
+use Rattle.rigid.specs.Fit.{fitsAt, runFits, fitGoes, FitIn, opensTo, skipsTo, isSome, headFits, fitsTerm}
 
 -- ---- brackets that are passed over ----
 
@@ -252,7 +248,7 @@ module _ (names w : List ℕ) (used : ℕ) (t : Item) (x m : ℕ) (binds : List 
       fit-differs d = fit-known ∙ rw (strip-no _ _ (run-differs names w used v r within inside fits same d)) refl
 
       pub fit-equals : b ≡ true → fitsAt names w used m binds (coded names t x ∷ p) zero r
-          ≡ fitsAt names w used m binds p (opensTo (t .kind)) (rest (v .len) r)
+          ≡ fitsAt names w used m binds p (opensTo (t .kind)) (backOf (v .len) r)
       unfolding through
       fit-equals d =
           let e : 0 ≡ opensTo (t .kind) = opens-no (t .kind) (λ q. omega arith) in
@@ -267,7 +263,7 @@ module _ (names w : List ℕ) (used : ℕ) (t : Item) (x m : ℕ) (binds : List 
 
     module _ (inside : r .start + r .len ≤ used) (some : r .len ≡ 0 → ⊥) {b : Bool} (head : b ≡ fitsTerm names (decode termLayout used w) t (r .start)) where
       fit-head : fitsAt names w used m binds (coded names t x ∷ p) zero r
-          ≡ b && fitsAt names w used m binds p (opensTo (t .kind)) (rest 1 r)
+          ≡ b && fitsAt names w used m binds p (opensTo (t .kind)) (backOf 1 r)
       unfolding coded element fitsTerm
       fit-head = rw (cells-next names w used r inside some, head) (record-one (t .kind) names t x p _ _ _ low other)
 
@@ -275,24 +271,16 @@ module _ (names w : List ℕ) (used : ℕ) (t : Item) (x m : ℕ) (binds : List 
       fit-not e = fit-head ∙ rw e refl
 
       pub fit-one : b ≡ true → fitsAt names w used m binds (coded names t x ∷ p) zero r
-          ≡ fitsAt names w used m binds p (opensTo (t .kind)) (rest 1 r)
+          ≡ fitsAt names w used m binds p (opensTo (t .kind)) (backOf 1 r)
       fit-one e = fit-head ∙ rw e refl
 
 -- ---- what is left of the run ----
-
--- The pattern with the numbers of its names.
-abbrev pub patternIn : List ℕ → List ℕ → List ℕ → List (Element ℕ)
-patternIn names pattern numbers = codedAll names (records itemLayout pattern) numbers
-
--- Whether the run from record p on fits at the terms of r: what is asked.
-abbrev asked : List ℕ → List ℕ → ℕ → List ℕ → List ℕ → ℕ → ℕ → List ℕ → Run → Bool
-asked names w used pattern numbers p m binds r = fitsAt names w used m binds (drop p (patternIn names pattern numbers)) zero r
 
 -- What is asked comes to whether the run from record i on fits at the len terms from start on, d brackets of it being passed over.
 pub record Left (names w : List ℕ) (used : ℕ) (pattern numbers : List ℕ) (p m : ℕ) (binds : List ℕ) (r : Run) (i d start len : ℕ) : Type 0 where
   pub inside : start + len ≤ used
   pub few : d ≤ i
-  pub same : asked names w used pattern numbers p m binds r ≡ fitsAt names w used m binds (drop i (patternIn names pattern numbers)) d (record { start = start; len = len })
+  pub same : runFits names w used pattern numbers p m binds r ≡ fitsAt names w used m binds (drop i (patternIn names pattern numbers)) d (record { start = start; len = len })
 
 pub taken-in : (len : ℕ) (f : Fit) (k : ℕ) → FitIn len f → f ≡ Takes k → k ≤ len
 taken-in len f k h e = rw e at h
@@ -303,14 +291,14 @@ module _ {names w : List ℕ} {used : ℕ} {pattern numbers : List ℕ} {p m : �
 
   module _ {i d start len : ℕ} (left : Left names w used pattern numbers p m binds r i d start len) where
     -- past the end of the pattern
-    pub left-end : length pattern / 4 ≤ i → true ≡ asked names w used pattern numbers p m binds r
+    pub left-end : length pattern / 4 ≤ i → true ≡ runFits names w used pattern numbers p m binds r
     unfolding count rigidFits
     left-end h = sym (left .same ∙ rw (pattern-end names pattern numbers i h) refl)
 
     -- at record i
     module _ (lt : i < length pattern / 4) {t : Item} (at : t ≡ recordAt itemLayout pattern i) where
       here : {x : ℕ} → x ≡ getD numbers i 0
-          → asked names w used pattern numbers p m binds r
+          → runFits names w used pattern numbers p m binds r
           ≡ fitsAt names w used m binds (coded names t x ∷ drop (i + 1) (patternIn names pattern numbers)) d (record { start = start; len = len })
       unfolding count
       here e = left .same ∙ ap (λ z. fitsAt names w used m binds z d (record { start = start; len = len })) (pattern-at names pattern numbers i lt at e)
@@ -331,14 +319,14 @@ module _ {names w : List ℕ} {used : ℕ} {pattern numbers : List ℕ} {p m : �
           (goes : (q : List (Element ℕ))
           → fitsAt names w used m binds (coded names t x ∷ q) zero (record { start = start; len = len })
           ≡ fitGoes f (λ k. fitsAt names w used m binds q (opensTo (t .kind)) (record { start = start + k; len = len - k }))) where
-        left-goes : asked names w used pattern numbers p m binds r
+        left-goes : runFits names w used pattern numbers p m binds r
             ≡ fitGoes f (λ k. fitsAt names w used m binds (drop (i + 1) (patternIn names pattern numbers)) (opensTo (t .kind)) (record { start = start + k; len = len - k }))
         left-goes = let z : d ≡ 0 = omega arith in rw z at (here number) ∙ goes (drop (i + 1) (patternIn names pattern numbers))
 
-        pub left-no : f ≡ No → false ≡ asked names w used pattern numbers p m binds r
+        pub left-no : f ≡ No → false ≡ runFits names w used pattern numbers p m binds r
         left-no e = sym (rw e at left-goes)
 
-        pub left-ends : f ≡ Ends → true ≡ asked names w used pattern numbers p m binds r
+        pub left-ends : f ≡ Ends → true ≡ runFits names w used pattern numbers p m binds r
         left-ends e = sym (rw e at left-goes)
 
         pub left-takes : {k e : ℕ} → FitIn len f → f ≡ Takes k → e ≡ opensTo (t .kind) → Left names w used pattern numbers p m binds r (i + 1) e (start + k) (len - k)

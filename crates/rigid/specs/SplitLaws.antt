@@ -15,10 +15,11 @@ use Rattle.match_spec.specs.Pattern.{Item, itemLayout}
 use Rattle.value.specs.Equal.{equalSymbols}
 use Rattle.value.specs.EqualLaws.{symbols-differ, symbols-apart}
 use Rattle.steps.specs.declared.State.{State}
+use Rattle.steps.specs.State.{patternIn}
 use Rattle.steps.specs.StepLaws.{termOfItem}
 use Rattle.steps.specs.PatternAtLaws.{pattern-at}
-use Rattle.rigid.specs.Fit.{fitsTerm, Apart, kinds, chars, ApartAt, FirstFit}
-use Rattle.rigid.specs.FitLaws.{fitsAt, patternIn, term-bracket, term-literal, fit-not}
+use Rattle.rigid.specs.Fit.{fitsAt, splitFits, fitsTerm, Apart, kinds, chars, ApartAt, FirstFit}
+use Rattle.rigid.specs.FitLaws.{term-bracket, term-literal, fit-not}
 
 -- ---- a first record that cannot fit ----
 
@@ -73,11 +74,6 @@ apart-at w pattern p i t e h l a = record {
   low = subst (λ (z : Item). z .kind < 4) e l;
   apart = subst (λ (z : Item). Apart z (recordAt termLayout w i)) e a;
 }
-
--- Whether the run from record p on fits after j terms of r.
-abbrev pub splitFits : List ℕ → List ℕ → ℕ → List ℕ → List ℕ → ℕ → ℕ → List ℕ → Run → ℕ → Bool
-splitFits names w used pattern numbers p m binds r j =
-    fitsAt names w used m binds (drop p (patternIn names pattern numbers)) 0 (record { start = r .start + j; len = r .len - j })
 
 -- What the test says at the place after j terms.
 pub at-split : (names w : List ℕ) (used : ℕ) (pattern numbers : List ℕ) (p : ℕ) (binds : List ℕ) (s g : State) (j : ℕ) {b : Bool}

@@ -5,19 +5,16 @@ use steps::State;
 use words::Term;
 ghost use mathlib.Core.Path.{_≡_};
 ghost use mathlib.Core.Bool.{false};
-ghost use mathlib.Core.List.{List, _∷_, map};
-ghost use Prim.Native.Nat.{ℕ, zero, _+_, _-_, _*_, _<_, _≤_};
+ghost use mathlib.Core.List.{List, _∷_};
+ghost use Prim.Native.Nat.{ℕ, zero, _+_, _<_, _≤_};
 ghost use lib.Dec.{T};
-ghost use lib.ListN.{length, drop};
-ghost use Rattle.term_spec.specs.Words.{recordAt, decode, records, count};
-ghost use Rattle.term_spec.specs.Term.{termLayout};
+ghost use Rattle.term_spec.specs.Words.{Lies, recordAt, decode};
+ghost use Rattle.term_spec.specs.Term.{Run as SpecRun, termLayout};
 ghost use Rattle.match_spec.specs.Element.{Element};
-ghost use Rattle.match_spec.specs.Pattern.{itemLayout, itemRuleK, patternRule};
-ghost use Rattle.match_spec.specs.Walk.{cellsOf, rigidFits};
-ghost use Rattle.value.specs.Equal.{Store};
+ghost use Rattle.match_spec.specs.Pattern.{itemRuleK, patternLimit, closeKind, expressionVariableKind};
 ghost use Rattle.items.specs.Records.{asItem};
-ghost use Rattle.steps.specs.State.{entriesIn, Known, coded, codedAll};
-ghost use Rattle.rigid.specs.Fit.{FitIn, fitGoes, opensTo, skipsTo, fitsTerm, Apart, ApartAt, FirstFit};
+ghost use Rattle.steps.specs.State.{leftOf, backOf, RunReady, InStore, Known, PatternReady, coded};
+ghost use Rattle.rigid.specs.Fit.{fitsAt, runFits, splitFits, FitIn, fitGoes, opensTo, skipsTo, fitsTerm, Apart, ApartAt, FirstFit};
 
 // What a record of the run does: it does not fit, the run ends before it, it takes so many terms.
 pub enum Fit {
@@ -27,17 +24,19 @@ pub enum Fit {
 }
 
 // A literal, a bracket, or an s- or t-variable at a term that is there.
-fn fit_term(names: &[u8], terms: &[u32], used: usize, t: Item, start: usize) -> bool
-    requires { ⌜ Store (now names) (now terms) used × (start < used) ⌝ }
-    requires { ⌜ T (itemRuleK (t .kind) (now names) (asItem t)) × (t .kind < 7) × (t .kind ≡ 4 → ⊥) ⌝ }
-    ensures { λ r. ⌜ r ≡ fitsTerm (now (names .entry)) (decode termLayout used (now (terms .entry))) (asItem t) start ⌝ }
+fn fit_term(names: &[u8], terms: &[u32], t: Item, start: usize) -> bool
+    requires { ⌜ InStore (now names) (now terms) (record { start = start; len = 1 }) ⌝ }
+    requires { ⌜ T (itemRuleK (t .kind) (now names) (asItem t)) × (t .kind < expressionVariableKind) × (t .kind ≡ closeKind → ⊥) ⌝ }
+    ensures { λ r.
+        let terms = now (terms .entry) in
+        ⌜ ((used : ℕ) → start < used → r ≡ fitsTerm (now (names .entry)) (decode termLayout used terms) (asItem t) start) ⌝ }
 {
     let u = words::get_term(terms, start);
-    if t.kind == 3 {
-        return u.kind == 3;
+    if t.kind == items::OPEN {
+        return u.kind == words::BRACKET;
     }
-    if 4 < t.kind {
-        return kinds::variable_accepts(t.kind - 5, u);
+    if items::CLOSE < t.kind {
+        return kinds::variable_accepts(t.kind - items::S_VARIABLE, u);
     }
     let literal = Term {
         kind: t.kind,
@@ -60,17 +59,24 @@ fn fit_record(
     start: usize,
     len: usize,
 ) -> Fit
-    requires { ⌜ Store (now names) (now terms) used × Known used bound (now binds) × (start + len ≤ used) × (used ≤ 65536) ⌝ }
+    requires { ⌜ RunReady (now names) (now terms) used (record { start = start; len = len }) × Known used bound (now binds) ⌝ }
     requires { ⌜ T (itemRuleK (t .kind) (now names) (asItem t)) ⌝ }
-    ensures { λ r. ⌜ FitIn len r × ((p : List (Element ℕ)) → rigidFits (coded (now (names .entry)) (asItem t) x ∷ p) zero (map (cellsOf (now (names .entry)) (decode termLayout used (now (terms .entry)))) (entriesIn bound (now (binds .entry)))) (cellsOf (now (names .entry)) (decode termLayout used (now (terms .entry))) (record { start = start; len = len })) ≡ fitGoes r (λ k. rigidFits p (opensTo (t .kind)) (map (cellsOf (now (names .entry)) (decode termLayout used (now (terms .entry)))) (entriesIn bound (now (binds .entry)))) (cellsOf (now (names .entry)) (decode termLayout used (now (terms .entry))) (record { start = start + k; len = len - k })))) ⌝ }
+    ensures { λ r.
+        let fits = fitsAt (now (names .entry)) (now (terms .entry)) used bound (now (binds .entry)) in
+        let element = coded (now (names .entry)) (asItem t) x in
+        let ahead : SpecRun = record { start = start; len = len } in
+        ⌜
+        FitIn len r
+        × ((p : List (Element ℕ)) → fits (element ∷ p) zero ahead ≡ fitGoes r (λ k. fits p (opensTo (t .kind)) (backOf k ahead)))
+        ⌝ }
 {
-    if t.kind == 4 {
+    if t.kind == items::CLOSE {
         return Fit::Ends;
     }
-    if 7 < t.kind {
+    if items::E_VARIABLE < t.kind {
         return Fit::Ends;
     }
-    if t.kind == 7 {
+    if t.kind == items::E_VARIABLE {
         if bound <= x {
             return Fit::Ends;
         }
@@ -86,7 +92,7 @@ fn fit_record(
     if len == 0 {
         return Fit::No;
     }
-    if !fit_term(names, terms, used, t, start) {
+    if !fit_term(names, terms, t, start) {
         return Fit::No;
     }
     Fit::Takes(1)
@@ -94,13 +100,13 @@ fn fit_record(
 
 // How a record inside a bracket of the run changes the brackets that are passed over.
 fn skip(kind: usize, d: usize) -> usize
-    requires { ⌜ (1 ≤ d) × (d ≤ 256) ⌝ }
+    requires { ⌜ (1 ≤ d) × (d ≤ patternLimit) ⌝ }
     ensures { λ r. ⌜ r ≡ skipsTo kind d ⌝ }
 {
-    if kind == 3 {
+    if kind == items::OPEN {
         return d + 1;
     }
-    if kind == 4 {
+    if kind == items::CLOSE {
         return d - 1;
     }
     d
@@ -110,7 +116,7 @@ fn skip(kind: usize, d: usize) -> usize
 fn opens(kind: usize) -> usize
     ensures { λ r. ⌜ r ≡ opensTo kind ⌝ }
 {
-    if kind == 3 {
+    if kind == items::OPEN {
         return 1;
     }
     0
@@ -127,9 +133,11 @@ pub fn rigid_run_matches(
     s: State,
     binds: &[u32],
 ) -> bool
-    requires { ⌜ Store (now names) (now terms) used × (used ≤ 65536) × (s .start + s .len ≤ used) × Known used (s .bound) (now binds) ⌝ }
-    requires { ⌜ T (patternRule (now names) (records itemLayout (now pattern))) × (length (now pattern) ≤ 1027) × (count itemLayout (now pattern) ≤ length (now numbers)) ⌝ }
-    ensures { λ r. ⌜ r ≡ rigidFits (drop p (codedAll (now (names .entry)) (records itemLayout (now (pattern .entry))) (now (numbers .entry)))) zero (map (cellsOf (now (names .entry)) (decode termLayout used (now (terms .entry)))) (entriesIn (s .bound) (now (binds .entry)))) (cellsOf (now (names .entry)) (decode termLayout used (now (terms .entry))) (record { start = s .start; len = s .len })) ⌝ }
+    requires { ⌜ RunReady (now names) (now terms) used (leftOf s) × Known used (s .bound) (now binds) ⌝ }
+    requires { ⌜ PatternReady (now names) (now pattern) (now numbers) ⌝ }
+    ensures { λ r.
+        let fits = runFits (now (names .entry)) (now (terms .entry)) used (now (pattern .entry)) (now (numbers .entry)) p in
+        ⌜ r ≡ fits (s .bound) (now (binds .entry)) (leftOf s) ⌝ }
 {
     let n = pattern.len() / items::ITEM_WIDTH;
     let mut i = p;
@@ -168,11 +176,11 @@ pub fn rigid_run_matches(
 // Whether a rigid run that begins with the record t (a literal or an Open) may begin at term i, by kind and by a Char's value: cheaper than
 // the whole test, which comes after it.
 fn may_begin(terms: &[u32], t: Item, i: usize) -> bool
-    requires { ⌜ i * 4 + 4 ≤ length (now terms) ⌝ }
+    requires { ⌜ Lies termLayout (now terms) (i + 1) ⌝ }
     ensures { λ r. ⌜ (r ≡ false → Apart (asItem t) (recordAt termLayout (now (terms .entry)) i)) ⌝ }
 {
     let u = words::get_term(terms, i);
-    if t.kind == 0 {
+    if t.kind == words::CHAR {
         if u.a != t.a {
             return false;
         }
@@ -182,8 +190,10 @@ fn may_begin(terms: &[u32], t: Item, i: usize) -> bool
 
 // The first of the terms from `from` to before `end` at which it may begin, `end` if there is none.
 fn next_begin(terms: &[u32], t: Item, from: usize, end: usize) -> usize
-    requires { ⌜ (from ≤ end) × (end * 4 ≤ length (now terms)) ⌝ }
-    ensures { λ r. ⌜ (from ≤ r) × (r ≤ end) × ((i : ℕ) → from ≤ i → i < r → Apart (asItem t) (recordAt termLayout (now (terms .entry)) i)) ⌝ }
+    requires { ⌜ (from ≤ end) × Lies termLayout (now terms) end ⌝ }
+    ensures { λ r.
+        let terms = now (terms .entry) in
+        ⌜ (from ≤ r) × (r ≤ end) × ((i : ℕ) → from ≤ i → i < r → Apart (asItem t) (recordAt termLayout terms i)) ⌝ }
 {
     let mut i = from;
     while i < end {
@@ -197,14 +207,16 @@ fn next_begin(terms: &[u32], t: Item, from: usize, end: usize) -> usize
 
 // Passes over splits from j on where the record p that comes after the e-variable cannot fit.
 fn skip_apart(terms: &[u32], pattern: &[u32], p: usize, s: State, j: usize) -> usize
-    requires { ⌜ ((s .start + s .len) * 4 ≤ length (now terms)) × (j ≤ s .len) ⌝ }
-    ensures { λ r. ⌜ (j ≤ r) × (r ≤ s .len) × ((i : ℕ) → j ≤ i → i < r → ApartAt (now (terms .entry)) (now (pattern .entry)) p (s .start + i)) ⌝ }
+    requires { ⌜ Lies termLayout (now terms) (s .start + s .len) × (j ≤ s .len) ⌝ }
+    ensures { λ r.
+        let apart = ApartAt (now (terms .entry)) (now (pattern .entry)) p in
+        ⌜ (j ≤ r) × (r ≤ s .len) × ((i : ℕ) → j ≤ i → i < r → apart (s .start + i)) ⌝ }
 {
     if pattern.len() / items::ITEM_WIDTH <= p {
         return j;
     }
     let t = items::get_item(pattern, p);
-    if 3 < t.kind {
+    if items::OPEN < t.kind {
         return j;
     }
     next_begin(terms, t, s.start + j, s.start + s.len) - s.start
@@ -223,10 +235,12 @@ pub fn next_split(
     binds: &[u32],
     k: usize,
 ) -> usize
-    requires { ⌜ Store (now names) (now terms) used × (used ≤ 65536) × (s .start + s .len ≤ used) × Known used (s .bound) (now binds) ⌝ }
-    requires { ⌜ T (patternRule (now names) (records itemLayout (now pattern))) × (length (now pattern) ≤ 1027) × (count itemLayout (now pattern) ≤ length (now numbers)) ⌝ }
+    requires { ⌜ RunReady (now names) (now terms) used (leftOf s) × Known used (s .bound) (now binds) ⌝ }
+    requires { ⌜ PatternReady (now names) (now pattern) (now numbers) ⌝ }
     requires { ⌜ k ≤ s .len + 1 ⌝ }
-    ensures { λ r. ⌜ FirstFit (λ j. rigidFits (drop p (codedAll (now (names .entry)) (records itemLayout (now (pattern .entry))) (now (numbers .entry)))) zero (map (cellsOf (now (names .entry)) (decode termLayout used (now (terms .entry)))) (entriesIn (s .bound) (now (binds .entry)))) (cellsOf (now (names .entry)) (decode termLayout used (now (terms .entry))) (record { start = s .start + j; len = s .len - j }))) k (s .len) r ⌝ }
+    ensures { λ r.
+        let fits = splitFits (now (names .entry)) (now (terms .entry)) used (now (pattern .entry)) (now (numbers .entry)) p in
+        ⌜ FirstFit (fits (s .bound) (now (binds .entry)) (leftOf s)) k (s .len) r ⌝ }
 {
     let mut j = k;
     while j <= s.len {

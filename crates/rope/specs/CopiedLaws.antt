@@ -4,17 +4,17 @@ use mathlib.Core.List.{List, [], _++_, append-assoc}
 use lib.Dec.{T}
 use lib.ListN.{length, take, drop, length-drop}
 use lib.Seq.{sets, sets-eq, take-add, take-at, length-take-le}
-use Prim.Native.Nat.{ℕ, _+_, _*_, _-_, _≤_, _<_}
+use Prim.Native.Nat.{ℕ, _+_, _*_, _-_, _/_, _≤_, _<_}
 use native.Mathlib.Omega.{arith}
 use Rattle.term_spec.specs.ListLaws.{part-below, part-length}
-use Rattle.term_spec.specs.Term.{Term, Run, part, termLayout}
-use Rattle.term_spec.specs.Words.{decode, encode, write}
+use Rattle.term_spec.specs.Term.{Term, Run, part, termLayout, limit}
+use Rattle.term_spec.specs.Words.{Lies, decode, count, encode, write}
 use Rattle.term_spec.specs.WordsLaws.{term-lays, term-keeps, decode-length, decode-part, encode-decode, encode-length, write-length, write-append, write-none}
-use Rattle.view_spec.specs.Node.{nodeAt, meaning, nodesRule}
-use Rattle.view_spec.specs.NodeLaws.{reach-limit}
-use Rattle.nodes.specs.Store.{nodesIn, Store}
-use Rattle.rope.specs.Pieces.{Rest, waiting, Goes, Front, front, terms as over-terms, passed}
-use Rattle.rope.specs.PiecesLaws.{rest, none-wait, Along, Next, along-again, along-long, along-settled, along-short, along-next, front-some, along-on}
+use Rattle.view_spec.specs.Node.{meaning, nodesRule, GoodNodes}
+use Rattle.view_spec.specs.NodeLaws.{reach-limit, nodes-more}
+use Rattle.nodes.specs.NodeStore.{nodesIn, AnyStore, Reaches}
+use Rattle.rope.specs.Pieces.{Rest, waiting, Goes, Front, front, terms as over-terms, passed, Below}
+use Rattle.rope.specs.PiecesLaws.{rest, none-wait, Along, Next, along-again, along-long, along-run, along-short, along-next, front-some, along-on}
 
 -- The used terms of a slice.
 abbrev pub termsIn : List ℕ → ℕ → List Term
@@ -26,12 +26,25 @@ shown terms used nodes nodes-used node = meaning (termsIn terms used) (nodesIn n
 
 -- The first len terms of a node are to go to record `base` of the words `before`, and after it.
 pub record Task (terms : List ℕ) (used : ℕ) (nodes : List ℕ) (nodes-used node len base : ℕ) (before : List ℕ) : Type 0 where
-  pub there : used * 4 ≤ length terms
-  pub few : used ≤ 65536
-  pub store : Store nodes used nodes-used
-  pub low : node < nodes-used
-  pub reached : len ≤ (nodeAt (nodesIn nodes nodes-used) node) .reach
-  pub room : (base + len) * 4 ≤ length before
+  pub there : Lies termLayout terms used
+  pub store : AnyStore nodes nodes-used
+  pub good : GoodNodes used (nodesIn nodes nodes-used)
+  pub reaches : Reaches nodes nodes-used node len
+  pub room : Lies termLayout before (base + len)
+
+-- The same where all terms of a slice are meant, and not only those that the nodes are over.
+pub task-out : {terms nodes : List ℕ} {nodes-used node len : ℕ} {work : List ℕ} → Below terms nodes nodes-used → Reaches nodes nodes-used node len
+    → Lies termLayout work len → Task terms (count termLayout terms) nodes nodes-used node len 0 work
+unfolding count
+task-out {terms} {nodes} {nodes-used} below reaches room =
+    let all : below .store .terms ≤ length terms / termLayout .width = omega (arith, below .there) in
+    record {
+      there = omega arith;
+      store = below .store;
+      good = nodes-more (below .store .terms) (length terms / termLayout .width) (nodesIn nodes nodes-used) all (below .store .store .good);
+      reaches = reaches;
+      room = omega (arith, room);
+    }
 
 -- The first `done` of them are there, and the others are still to be read.
 pub record Done (terms : List ℕ) (used : ℕ) (nodes : List ℕ) (nodes-used node len base : ℕ) (before : List ℕ) (at : Rest) (after : List ℕ) (done : ℕ) : Type 0 where
@@ -39,50 +52,52 @@ pub record Done (terms : List ℕ) (used : ℕ) (nodes : List ℕ) (nodes-used n
   pub along : Along (termsIn terms used) (nodesIn nodes nodes-used) node len done at
   pub words : after ≡ write termLayout before base (take done (shown terms used nodes nodes-used node))
 
--- What the code needs of the run that is copied next.
-pub record Found (used len done : ℕ) (r : Run) : Type 0 where
+-- What the code needs of the run that is copied next, and of the piece that begins with it.
+pub record Found (used len done : ℕ) (at : Rest) (r : Run) : Type 0 where
   pub some : 1 ≤ r .len
   pub most : done + r .len ≤ len
   pub inside : r .start + r .len ≤ used
-  pub short : len ≤ 65536
+  pub short : len ≤ limit
+  pub within : r .len ≤ at .left
+  pub near : at .skip + at .left ≤ limit
 
 -- The words of a run of terms, in any slice that begins with the words of the used terms.
-run-words : (terms source : List ℕ) (used : ℕ) (r : Run) → used * 4 ≤ length terms → take (used * 4) source ≡ take (used * 4) terms → r .start + r .len ≤ used
-    → take (r .len * 4) (drop (r .start * 4) source) ≡ encode termLayout (part (termsIn terms used) r)
+run-words : (terms source : List ℕ) (used : ℕ) (r : Run) → Lies termLayout terms used → take (used * termLayout .width) source ≡ take (used * termLayout .width) terms → r .start + r .len ≤ used
+    → take (r .len * termLayout .width) (drop (r .start * termLayout .width) source) ≡ encode termLayout (part (termsIn terms used) r)
 run-words terms source used r there same inside =
-    let l : r .len * 4 ≤ length (drop (r .start * 4) terms) = rw length-drop (omega arith) in
-    sym (part-below source (r .start * 4) (r .len * 4) (used * 4) (omega arith))
-    ∙ ap (λ w. take (r .len * 4) (drop (r .start * 4) w)) same
-    ∙ part-below terms (r .start * 4) (r .len * 4) (used * 4) (omega arith)
-    ∙ sym (encode-decode termLayout term-keeps (r .len) (drop (r .start * 4) terms) l)
+    let l : r .len * termLayout .width ≤ length (drop (r .start * termLayout .width) terms) = rw length-drop (omega arith) in
+    sym (part-below source (r .start * termLayout .width) (r .len * termLayout .width) (used * termLayout .width) (omega arith))
+    ∙ ap (λ w. take (r .len * termLayout .width) (drop (r .start * termLayout .width) w)) same
+    ∙ part-below terms (r .start * termLayout .width) (r .len * termLayout .width) (used * termLayout .width) (omega arith)
+    ∙ sym (encode-decode termLayout term-keeps (r .len) (drop (r .start * termLayout .width) terms) l)
     ∙ ap (encode termLayout) (sym (decode-part termLayout used (r .start) (r .len) terms inside))
 
 -- The words of terms, set at record i, are the terms written there.
-words-written : (w : List ℕ) (i : ℕ) (ts : List Term) → (i + length ts) * 4 ≤ length w → sets w (i * 4) (encode termLayout ts) ≡ write termLayout w i ts
+words-written : (w : List ℕ) (i : ℕ) (ts : List Term) → Lies termLayout w (i + length ts) → sets w (i * termLayout .width) (encode termLayout ts) ≡ write termLayout w i ts
 unfolding write
 words-written w i ts h =
     let l = encode-length termLayout term-lays ts in
-    let z : i * 4 + length (encode termLayout ts) ≡ (i + length ts) * 4 = omega arith in
-    sets-eq (encode termLayout ts) w (i * 4) (omega arith) ∙ ap (λ k. take (i * 4) w ++ encode termLayout ts ++ drop k w) z
+    let z : i * termLayout .width + length (encode termLayout ts) ≡ (i + length ts) * termLayout .width = omega arith in
+    sets-eq (encode termLayout ts) w (i * termLayout .width) (omega arith) ∙ ap (λ k. take (i * termLayout .width) w ++ encode termLayout ts ++ drop k w) z
 
 -- What is written at record i leaves the words before it.
-write-below : (w : List ℕ) (i : ℕ) (ts : List Term) → i * 4 ≤ length w → take (i * 4) (write termLayout w i ts) ≡ take (i * 4) w
+write-below : (w : List ℕ) (i : ℕ) (ts : List Term) → Lies termLayout w i → take (i * termLayout .width) (write termLayout w i ts) ≡ take (i * termLayout .width) w
 unfolding write
 write-below w i ts h =
-    ap (take (i * 4)) (append-assoc (take (i * 4) w) (encode termLayout ts) _)
-    ∙ take-at (take (i * 4) w) (encode termLayout ts ++ drop ((i + length ts) * 4) w) (i * 4) (length-take-le (i * 4) w h)
+    ap (take (i * termLayout .width)) (append-assoc (take (i * termLayout .width) w) (encode termLayout ts) _)
+    ∙ take-at (take (i * termLayout .width) w) (encode termLayout ts ++ drop ((i + length ts) * termLayout .width) w) (i * termLayout .width) (length-take-le (i * termLayout .width) w h)
 
 module _ {terms : List ℕ} {used : ℕ} {nodes : List ℕ} {nodes-used node len base : ℕ} {before : List ℕ} where
   -- the rule of the nodes, over the list of the terms
   task-good : Task terms used nodes nodes-used node len base before → T (nodesRule (length (termsIn terms used)) (nodesIn nodes nodes-used))
-  task-good k = rw (decode-length termLayout used terms) (k .store .good)
+  task-good k = rw (decode-length termLayout used terms) (k .good)
 
   pub done-none : Task terms used nodes nodes-used node len base before → (w : List ℕ)
       → Done terms used nodes nodes-used node len base before (rest node 0 len (waiting w 0)) before 0
   done-none k w = record {
     task = k;
     along = rw (none-wait w)
-        (along-again (termsIn terms used) (nodesIn nodes nodes-used) node len 0 len (task-good k) (rw decode-length (k .low)) (k .reached) (omega arith) (omega arith));
+        (along-again (termsIn terms used) (nodesIn nodes nodes-used) node len 0 len (task-good k) (rw decode-length (k .reaches .low)) (k .reaches .fits) (omega arith) (omega arith));
     words = sym (write-none termLayout term-lays before base);
   }
 
@@ -98,14 +113,14 @@ module _ {terms : List ℕ} {used : ℕ} {nodes : List ℕ} {nodes-used node len
     done-all h = let e : done ≡ len = omega (arith, so-far .along .most) in so-far .words ∙ ap (λ n. write termLayout before base (take n (shown terms used nodes nodes-used node))) e
 
     -- the used terms are as they were, where they are copied after themselves
-    pub done-below : base * 4 ≤ length before → take (base * 4) after ≡ take (base * 4) before
-    done-below h = ap (take (base * 4)) (so-far .words) ∙ write-below before base (take done (shown terms used nodes nodes-used node)) h
+    pub done-below : Lies termLayout before base → take (base * termLayout .width) after ≡ take (base * termLayout .width) before
+    done-below h = ap (take (base * termLayout .width)) (so-far .words) ∙ write-below before base (take done (shown terms used nodes nodes-used node)) h
 
-    -- the piece is settled
-    pub done-settled : {next : Rest} → Goes (nodesIn nodes nodes-used) used at next → Done terms used nodes nodes-used node len base before next after done
-    done-settled g = record {
+    -- the piece is taken down to a run
+    pub done-run : {next : Rest} → Goes (nodesIn nodes nodes-used) at next → Done terms used nodes nodes-used node len base before next after done
+    done-run g = record {
       task = so-far .task;
-      along = along-settled (so-far .along) (g .ready) (g .same over-terms (termsIn terms used) (decode-length termLayout used terms));
+      along = along-run (so-far .along) (g .ready) (g .same over-terms (termsIn terms used) (so-far .along .good));
       words = so-far .words;
     }
 
@@ -114,21 +129,19 @@ module _ {terms : List ℕ} {used : ℕ} {nodes : List ℕ} {nodes-used node len
       next-run : Next (termsIn terms used) (nodesIn nodes nodes-used) node len done (at .left) r
       next-run = along-next (so-far .along) lt v e (r .len) (front-some (so-far .along) lt v e) (omega arith)
 
-      pub done-found : Found used len done r
+      pub done-found : Found used len done at r
       done-found = record {
         some = next-run .some;
         most = next-run .most;
         inside = rw decode-length at (next-run .inside);
-        short = omega (arith, reach-limit (termsIn terms used) (nodesIn nodes nodes-used) (task-good (so-far .task)) node (so-far .along .low), so-far .task .reached);
+        short = omega (arith, reach-limit (termsIn terms used) (nodesIn nodes nodes-used) (task-good (so-far .task)) node (so-far .along .low), so-far .task .reaches .fits);
+        within = next-run .within;
+        near = along-short (so-far .along) lt;
       }
 
-      -- what the code needs of the piece that it is read from
-      pub done-within : (r .len ≤ at .left) × (at .skip + at .left ≤ 65536)
-      done-within = (next-run .within, along-short (so-far .along) lt)
-
       -- the run's words, set after those that are there
-      next-words : (source : List ℕ) → take (used * 4) source ≡ take (used * 4) terms
-          → sets after ((base + done) * 4) (take (r .len * 4) (drop (r .start * 4) source))
+      next-words : (source : List ℕ) → take (used * termLayout .width) source ≡ take (used * termLayout .width) terms
+          → sets after ((base + done) * termLayout .width) (take (r .len * termLayout .width) (drop (r .start * termLayout .width) source))
           ≡ write termLayout before base (take (done + r .len) (shown terms used nodes nodes-used node))
       next-words source same =
           let M = shown terms used nodes nodes-used node in
@@ -137,16 +150,16 @@ module _ {terms : List ℕ} {used : ℕ} {nodes : List ℕ} {nodes-used node len
           let f = done-found in
           let l : length Q ≡ r .len = part-length (termsIn terms used) (r .start) (r .len) (next-run .inside) in
           let s : Q ≡ take (r .len) (drop done M) = next-run .shows in
-          ap (sets after ((base + done) * 4)) (run-words terms source used r (so-far .task .there) same (f .inside))
+          ap (sets after ((base + done) * termLayout .width)) (run-words terms source used r (so-far .task .there) same (f .inside))
           ∙ words-written after (base + done) Q (omega (arith, done-length, so-far .task .room))
           ∙ ap₂ (λ w k. write termLayout w (base + k) Q) (so-far .words) (sym taken-length)
           ∙ write-append termLayout term-lays before base P Q (omega (arith, taken-length, so-far .task .room))
           ∙ ap (write termLayout before base) (ap (P ++_) s ∙ sym (take-add done (r .len) M))
 
       -- the run is copied, and read
-      pub done-next : (source : List ℕ) → take (used * 4) source ≡ take (used * 4) terms → (to : ℕ) → to ≡ (base + done) * 4
+      pub done-next : (source : List ℕ) → take (used * termLayout .width) source ≡ take (used * termLayout .width) terms → (to : ℕ) → to ≡ (base + done) * termLayout .width
           → {next : Rest} → next ≡ passed at (r .len) (rest node (done + r .len) (len - (done + r .len)) [])
-          → {final : List ℕ} → final ≡ sets after to (take (r .len * 4) (drop (r .start * 4) source))
+          → {final : List ℕ} → final ≡ sets after to (take (r .len * termLayout .width) (drop (r .start * termLayout .width) source))
           → Done terms used nodes nodes-used node len base before next final (done + r .len)
       done-next source same to et es ew = rw (ew, et) (record {
         task = so-far .task;

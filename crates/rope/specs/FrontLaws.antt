@@ -14,13 +14,13 @@ use Rattle.term_spec.specs.TermLaws.{values-length}
 use Rattle.term_spec.specs.Value.{Value, canon, forms, sames?, isYes}
 use Rattle.term_spec.specs.ValueLaws.{is-yes, is-no}
 use Rattle.term_spec.specs.WordsLaws.{decode-length}
-use Rattle.view_spec.specs.Node.{Node, nodeAt, meaning, holds, nodesRule}
+use Rattle.view_spec.specs.Node.{Node, meaning, holds, nodesRule}
 use Rattle.view_spec.specs.Read.{equalTerms}
 use Rattle.view_spec.specs.ReadLaws.{equal-terms}
-use Rattle.nodes.specs.Store.{nodesIn, Store}
+use Rattle.nodes.specs.NodeStore.{nodesIn, NodeStore, Reaches}
 use Rattle.value.specs.Equal.{valuesIn, equalRuns}
 use Rattle.rope.specs.Pieces.{Rest, waiting, Goes, Front, front, values, passed}
-use Rattle.rope.specs.PiecesLaws.{rest, none-wait, Along, Next, along-again, along-settled, along-next, front-some, along-on}
+use Rattle.rope.specs.PiecesLaws.{rest, none-wait, Along, Next, along-again, along-run, along-next, front-some, along-on}
 
 -- The first `done` terms of f and g are equal, and those that are still to be read come after them.
 pub record Fronts (vs : List Value) (ns : List Node) (f g n : ℕ) (a b : Rest) (done : ℕ) : Type 0 where
@@ -34,11 +34,11 @@ pub record Pair (vs : List Value) (ns : List Node) (f g n done l m x y k : ℕ) 
   pub right : Next vs ns g n done m (record { start = y; len = k })
 
 module _ {vs : List Value} {ns : List Node} {f g n done : ℕ} {a b : Rest} (w : Fronts vs ns f g n a b done) where
-  -- Both pieces are settled.
-  pub fronts-settled : {used : ℕ} {a′ b′ : Rest} → length vs ≡ used → Goes ns used a a′ → Goes ns used b b′ → Fronts vs ns f g n a′ b′ done
-  fronts-settled l x y = record {
-    left = along-settled (w .left) (x .ready) (x .same values vs l);
-    right = along-settled (w .right) (y .ready) (y .same values vs l);
+  -- Both pieces are taken down to runs.
+  pub fronts-run : {a′ b′ : Rest} → Goes ns a a′ → Goes ns b b′ → Fronts vs ns f g n a′ b′ done
+  fronts-run x y = record {
+    left = along-run (w .left) (x .ready) (x .same values vs (w .left .good));
+    right = along-run (w .right) (y .ready) (y .same values vs (w .right .good));
     alike = w .alike;
   }
 
@@ -99,15 +99,15 @@ pub terms-same : (x y : List Value) → x ≡ y → true ≡ equalTerms x y
 terms-same x y e = sym (equal-terms x y .1 (ap forms e))
 
 -- No term is read yet.
-pub fronts-start : (names words nodes : List ℕ) (used nodes-used f g n : ℕ) → Store nodes used nodes-used
-    → (f < nodes-used) × (n ≤ (nodeAt (nodesIn nodes nodes-used) f) .reach) → (g < nodes-used) × (n ≤ (nodeAt (nodesIn nodes nodes-used) g) .reach)
+pub fronts-start : (names words nodes : List ℕ) (used nodes-used f g n : ℕ) → NodeStore nodes used nodes-used
+    → Reaches nodes nodes-used f n → Reaches nodes nodes-used g n
     → (v w : List ℕ) → Fronts (valuesIn names words used) (nodesIn nodes nodes-used) f g n (rest f 0 n (waiting v 0)) (rest g 0 n (waiting w 0)) 0
-fronts-start names words nodes used nodes-used f g n s (x, h) (y, k) v w =
+fronts-start names words nodes used nodes-used f g n s x y v w =
     let vs = valuesIn names words used in
     let ns = nodesIn nodes nodes-used in
     let good : T (nodesRule (length vs) ns) = rw (values-length, decode-length) (s .good) in
     record {
-      left = rw (none-wait v) (along-again vs ns f n 0 n good (rw decode-length x) h (omega arith) (omega arith));
-      right = rw (none-wait w) (along-again vs ns g n 0 n good (rw decode-length y) k (omega arith) (omega arith));
+      left = rw (none-wait v) (along-again vs ns f n 0 n good (rw decode-length (x .low)) (x .fits) (omega arith) (omega arith));
+      right = rw (none-wait w) (along-again vs ns g n 0 n good (rw decode-length (y .low)) (y .fits) (omega arith) (omega arith));
       alike = refl;
     }

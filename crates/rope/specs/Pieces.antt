@@ -5,10 +5,12 @@ use lib.ListN.{length, getD, take, drop}
 use Prim.Native.Nat.{ℕ, suc, zero, _+_, _*_, _-_, _≤_, _<_, min}
 use native.Mathlib.Decide.{decLt}
 use Rattle.term_spec.specs.ListLaws.{All}
-use Rattle.term_spec.specs.Term.{Term, Run}
+use Rattle.term_spec.specs.Words.{Lies}
+use Rattle.term_spec.specs.Term.{Term, Run, termLayout}
 use Rattle.term_spec.specs.Value.{Value}
 use Rattle.view_spec.specs.Build.{ifDec}
-use Rattle.view_spec.specs.Node.{Node, Field, nodeAt, meaning, holds}
+use Rattle.view_spec.specs.Node.{Node, Field, consKind, nodeAt, meaning, holds, GoodNodes}
+use Rattle.nodes.specs.NodeStore.{AnyStore}
 use Rattle.rope.specs.declared.Piece.{Piece}
 
 -- `left` terms of a node after its first `skip`, then the fields `later`.
@@ -17,6 +19,10 @@ pub record Rest : Type 0 where
   pub skip : ℕ
   pub left : ℕ
   pub later : List Field
+
+-- The most fields on a stack.
+abbrev pub mostFields : ℕ
+mostFields = 32
 
 -- The fields on a stack of so many, the last one first.
 unfoldable pub waiting : List ℕ → ℕ → List Field
@@ -62,14 +68,14 @@ Entry values = Value
 abbrev pub Starts : {X : Type 0} → List X → List X → Type 0
 Starts {X} a b = (y : List X) × (a ++ y ≡ b)
 
--- t is ready, and its terms are the first of those of s.
-pub record Goes (ns : List Node) (used : ℕ) (s t : Rest) : Type 0 where
+-- t is ready, and its terms, whatever list of terms the nodes are over, are the first of those of s.
+pub record Goes (ns : List Node) (s t : Rest) : Type 0 where
   pub ready : Ready ns t
-  pub same : (o : Over) (xs : List (Entry o)) → length xs ≡ used → Starts (remain xs ns t) (remain xs ns s)
+  pub same : (o : Over) (xs : List (Entry o)) → GoodNodes (length xs) ns → Starts (remain xs ns t) (remain xs ns s)
 
 -- A run begins k terms into node i: it is a Cons, and not all of its run is skipped.
 pub record Front (ns : List Node) (i k : ℕ) : Type 0 where
-  pub cons : (nodeAt ns i) .kind ≡ 1
+  pub cons : (nodeAt ns i) .kind ≡ consKind
   pub inner : k < (nodeAt ns i) .b
 
 -- That run, of at most m terms.
@@ -85,3 +91,8 @@ popped (f ∷ fs) again = record { node = f .node; skip = 0; left = f .len; late
 unfoldable pub passed : Rest → ℕ → Rest → Rest
 passed r k again =
     ifDec (decLt k (r .left)) (record { node = r .node; skip = r .skip + k; left = r .left - k; later = r .later }) (popped (r .later) again)
+
+-- The terms that a store of nodes is over lie in a slice.
+pub record Below (terms nodes : List ℕ) (used : ℕ) : Type 0 where
+  pub store : AnyStore nodes used
+  pub there : Lies termLayout terms (store .terms)

@@ -10,13 +10,13 @@ use native.Mathlib.Numerals.{add-one}
 use native.Mathlib.Decide.{decLt}
 use native.Mathlib.Omega.{arith}
 use Rattle.term_spec.specs.ListLaws.{All, drop-take, take-left, take-right, drop-left, drop-right, part-below}
-use Rattle.term_spec.specs.Term.{Run, part}
+use Rattle.term_spec.specs.Term.{Run, part, limit}
 use Rattle.term_spec.specs.Words.{recordAt}
 use Rattle.term_spec.specs.WordsLaws.{decode-length}
-use Rattle.view_spec.specs.Node.{Node, Field, nodeLayout, nodeAt, meaning, nodesRule}
+use Rattle.view_spec.specs.Node.{Node, Field, nodeLayout, consKind, nodeAt, meaning, nodesRule}
 use Rattle.view_spec.specs.NodeLaws.{NodeAt, ConsAt, ConcatAt, node-at, reach-is, reach-limit, head-length}
 use Rattle.view_spec.specs.PlanLaws.{left-fits, if-yes, if-no}
-use Rattle.nodes.specs.Store.{nodesIn, Store}
+use Rattle.nodes.specs.NodeStore.{nodesIn, AnyStore}
 use Rattle.nodes.specs.RuleLaws.{below-at}
 use Rattle.rope.specs.LinkLaws.{onward, cons-link, concat-link, link-on, link-in}
 use Rattle.rope.specs.declared.Piece.{Piece}
@@ -112,7 +112,7 @@ starts-same : {X : Type 0} (a b c : List X) → a ≡ b → Starts b c → Start
 starts-same a b c p (y, q) = (y, ap (_++ y) p ∙ q)
 
 -- The fields that wait are left out.
-pub goes-cut : {ns : List Node} {terms : ℕ} {s : Rest} {i k m : ℕ} {fs later : List Field} → Goes ns terms s (rest i k m fs) → later ≡ [] → Goes ns terms s (rest i k m later)
+pub goes-cut : {ns : List Node} {s : Rest} {i k m : ℕ} {fs later : List Field} → Goes ns s (rest i k m fs) → later ≡ [] → Goes ns s (rest i k m later)
 unfolding All gives
 goes-cut {ns} {i = i} {k} {m} {fs} g e = rw e (record {
   ready = record { low = g .ready .low; some = g .ready .some; reached = g .ready .reached; later = tt };
@@ -122,21 +122,21 @@ goes-cut {ns} {i = i} {k} {m} {fs} g e = rw e (record {
 
 -- ---- steps of the code: node i is read from the words ----
 
-module _ (w : List ℕ) (terms used : ℕ) (st : Store w terms used) {s : Rest} {i k m : ℕ} {fs : List Field} (g : Goes (nodesIn w used) terms s (rest i k m fs))
+module _ (w : List ℕ) (used : ℕ) (st : AnyStore w used) {s : Rest} {i k m : ℕ} {fs : List Field} (g : Goes (nodesIn w used) s (rest i k m fs))
     {n : Node} (e : n ≡ recordAt nodeLayout w i) where
   abbrev ns : List Node
   ns = nodesIn w used
 
-  facts : NodeAt terms ns i
-  facts = node-at terms ns i (st .good) (g .ready .low)
+  facts : NodeAt (st .terms) ns i
+  facts = node-at (st .terms) ns i (st .store .good) (g .ready .low)
 
   is : n ≡ nodeAt ns i
   is = below-at w used i e (rw decode-length at (g .ready .low))
 
-  pub goes-here : (i < used) × (1 ≤ m) × (k + m ≤ 65536)
+  pub goes-here : (i < used) × (1 ≤ m) × (k + m ≤ limit)
   goes-here = (rw decode-length at (g .ready .low), g .ready .some, go facts)
     where
-      go : NodeAt terms ns i → k + m ≤ 65536
+      go : NodeAt (st .terms) ns i → k + m ≤ limit
       go (inl z) = omega (arith, z .reach0, g .ready .reached)
       go (inr (inl z)) = omega (arith, z .reach1, g .ready .reached)
       go (inr (inr z)) = omega (arith, z .reach2, g .ready .reached)
@@ -145,7 +145,7 @@ module _ (w : List ℕ) (terms used : ℕ) (st : Store w terms used) {s : Rest} 
   pub goes-low : n .b ≤ k → n .c < i
   goes-low q = rw is (go facts)
     where
-      go : NodeAt terms ns i → (nodeAt ns i) .c < i
+      go : NodeAt (st .terms) ns i → (nodeAt ns i) .c < i
       go (inl z) = absurd (omega (arith, z .reach0, g .ready .reached, g .ready .some))
       go (inr (inl z)) = z .tail-low
       go (inr (inr z)) = z .right-low
@@ -153,12 +153,12 @@ module _ (w : List ℕ) (terms used : ℕ) (st : Store w terms used) {s : Rest} 
   on-reached : (nodeAt ns i) .b ≤ k → k - (nodeAt ns i) .b + m ≤ (nodeAt ns ((nodeAt ns i) .c)) .reach
   on-reached q = go facts
     where
-      go : NodeAt terms ns i → k - (nodeAt ns i) .b + m ≤ (nodeAt ns ((nodeAt ns i) .c)) .reach
+      go : NodeAt (st .terms) ns i → k - (nodeAt ns i) .b + m ≤ (nodeAt ns ((nodeAt ns i) .c)) .reach
       go (inl z) = absurd (omega (arith, z .reach0, g .ready .reached, g .ready .some))
       go (inr (inl z)) = omega (arith, z .reach1, g .ready .reached)
       go (inr (inr z)) = omega (arith, z .reach2, g .ready .reached)
 
-  pub goes-on : n .b ≤ k → Goes ns terms s (rest (n .c) (k - n .b) m fs)
+  pub goes-on : n .b ≤ k → Goes ns s (rest (n .c) (k - n .b) m fs)
   goes-on q = rw is (record {
     ready = record {
       low = omega (arith, rw is at (goes-low q), g .ready .low);
@@ -167,23 +167,23 @@ module _ (w : List ℕ) (terms used : ℕ) (st : Store w terms used) {s : Rest} 
       later = g .ready .later;
     };
     same = λ o xs l. starts-same _ _ _
-        (step-on xs ns (rw l (st .good)) i k m fs (g .ready .low) (omega (arith, g .ready .reached, g .ready .some)) (rw is at q)) (g .same o xs l);
+        (step-on xs ns l i k m fs (g .ready .low) (omega (arith, g .ready .reached, g .ready .some)) (rw is at q)) (g .same o xs l);
   })
 
-  module _ (p : n .kind ≡ 1 → ⊥) (q : k < n .b) where
+  module _ (p : n .kind ≡ consKind → ⊥) (q : k < n .b) where
     concat : ConcatAt ns i
     concat = go facts
       where
-        go : NodeAt terms ns i → ConcatAt ns i
+        go : NodeAt (st .terms) ns i → ConcatAt ns i
         go (inl z) = absurd (omega (arith, z .reach0, g .ready .reached, g .ready .some))
         go (inr (inl z)) = absurd ((rw is at p) (z .kind1))
         go (inr (inr z)) = z
 
     -- the words fit
-    pub goes-small : (n .a < i) × (n .c < 65536)
-    goes-small = rw is (concat .left-low, omega (arith, concat .right-low, goes-here .0, st .few))
+    pub goes-small : (n .a < i) × (n .c < limit)
+    goes-small = rw is (concat .left-low, omega (arith, concat .right-low, goes-here .0, st .store .few))
 
-    pub goes-in : m ≤ n .b - k → Goes ns terms s (rest (n .a) k m fs)
+    pub goes-in : m ≤ n .b - k → Goes ns s (rest (n .a) k m fs)
     goes-in h = rw is (record {
       ready = record {
         low = omega (arith, concat .left-low, g .ready .low);
@@ -191,10 +191,10 @@ module _ (w : List ℕ) (terms used : ℕ) (st : Store w terms used) {s : Rest} 
         reached = omega (arith, concat .left-reach, rw is at h, rw is at q);
         later = g .ready .later;
       };
-      same = λ o xs l. starts-same _ _ _ (step-in xs ns (rw l (st .good)) i k m fs (g .ready .low) concat (rw is at q) (rw is at h)) (g .same o xs l);
+      same = λ o xs l. starts-same _ _ _ (step-in xs ns l i k m fs (g .ready .low) concat (rw is at q) (rw is at h)) (g .same o xs l);
     })
 
-    pub goes-split : n .b - k < m → {later : List Field} → later ≡ field (n .c) (m - (n .b - k)) ∷ fs → Goes ns terms s (rest (n .a) k (n .b - k) later)
+    pub goes-split : n .b - k < m → {later : List Field} → later ≡ field (n .c) (m - (n .b - k)) ∷ fs → Goes ns s (rest (n .a) k (n .b - k) later)
     unfolding All
     goes-split h v = rw (v, is) (record {
       ready = record {
@@ -210,10 +210,10 @@ module _ (w : List ℕ) (terms used : ℕ) (st : Store w terms used) {s : Rest} 
           g .ready .later,
         );
       };
-      same = λ o xs l. starts-same _ _ _ (step-split xs ns (rw l (st .good)) i k m fs (g .ready .low) concat (rw is at q) (rw is at h)) (g .same o xs l);
+      same = λ o xs l. starts-same _ _ _ (step-split xs ns l i k m fs (g .ready .low) concat (rw is at q) (rw is at h)) (g .same o xs l);
     })
 
-  pub goes-front : n .kind ≡ 1 → k < n .b → Front ns i k
+  pub goes-front : n .kind ≡ consKind → k < n .b → Front ns i k
   goes-front p q = record { cons = rw is at p; inner = rw is at q }
 
 -- No field waits.
@@ -222,20 +222,21 @@ unfolding waiting
 none-wait w = refl
 
 -- A Cons is one by its kind.
-cons-at : (terms : ℕ) (ns : List Node) (i : ℕ) → (nodeAt ns i) .kind ≡ 1 → NodeAt terms ns i → ConsAt terms ns i
+cons-at : (terms : ℕ) (ns : List Node) (i : ℕ) → (nodeAt ns i) .kind ≡ consKind → NodeAt terms ns i → ConsAt terms ns i
 cons-at terms ns i p (inl m) = absurd (omega (arith, m .kind0))
 cons-at terms ns i p (inr (inl m)) = m
 cons-at terms ns i p (inr (inr m)) = absurd (omega (arith, m .kind2))
 
 -- The run is read from the words.
-module _ (w : List ℕ) (terms used : ℕ) (st : Store w terms used) (i k m : ℕ) (low : i < used) (v : Front (nodesIn w used) i k)
+module _ (w : List ℕ) (used : ℕ) (st : AnyStore w used) (i k m : ℕ) (low : i < used) (v : Front (nodesIn w used) i k)
     {n : Node} (e : n ≡ recordAt nodeLayout w i) where
   front-is : n ≡ nodeAt (nodesIn w used) i
   front-is = below-at w used i e low
 
-  pub front-fits : (n .a + n .b ≤ terms) × (k < n .b)
+  pub front-fits : (n .a + n .b ≤ limit) × (k < n .b)
   front-fits =
-      rw front-is (cons-at terms (nodesIn w used) i (v .cons) (node-at terms (nodesIn w used) i (st .good) (rw decode-length low)) .inside-terms, v .inner)
+      let z = cons-at (st .terms) (nodesIn w used) i (v .cons) (node-at (st .terms) (nodesIn w used) i (st .store .good) (rw decode-length low)) in
+      rw front-is (omega (arith, z .inside-terms, st .few-terms), v .inner)
 
   pub front-read : {l : ℕ} → l ≡ min m (n .b - k) → record { start = n .a + k; len = l } ≡ front (nodesIn w used) i k m
   unfolding front
@@ -277,9 +278,9 @@ module _ {X : Type 0} {xs : List X} {ns : List Node} {f n done : ℕ} {r : Rest}
   pub along-long : n ≤ length (meaning xs ns f)
   along-long = omega (arith, reach-length xs ns (w .good) f (w .low), w .reached)
 
-  -- the piece is settled
-  pub along-settled : {s : Rest} → Ready ns s → Starts (remain xs ns s) (remain xs ns r) → Along xs ns f n done s
-  along-settled {s} v e =
+  -- the piece is taken down to a run
+  pub along-run : {s : Rest} → Ready ns s → Starts (remain xs ns s) (remain xs ns r) → Along xs ns f n done s
+  along-run {s} v e =
       record { good = w .good; low = w .low; reached = w .reached; most = w .most; ready = λ z. v; same = starts-more (remain xs ns s) (remain xs ns r) _ e (w .same) }
 
   module _ (lt : done < n) where
@@ -299,7 +300,7 @@ module _ {X : Type 0} {xs : List X} {ns : List Node} {f n done : ℕ} {r : Rest}
         let l = length-drop done (take n (meaning xs ns f)) ∙ ap (_- done) (length-take-le n (meaning xs ns f) along-long) in
         omega (arith, l, ap length whole, head-length (r .left) ahead (gives xs ns (r .later) ++ w .same .0) piece-fits)
 
-    pub along-short : r .skip + r .left ≤ 65536
+    pub along-short : r .skip + r .left ≤ limit
     along-short = omega (arith, w .ready lt .reached, reach-limit xs ns (w .good) (r .node) (w .ready lt .low))
 
     -- The first k terms of the piece are the next k terms of the node.
@@ -310,7 +311,8 @@ module _ {X : Type 0} {xs : List X} {ns : List Node} {f n done : ℕ} {r : Rest}
         ∙ part-below (meaning xs ns f) done k n (omega (arith, along-left))
 
     -- The first k terms of its run.
-    pub along-next : Front ns (r .node) (r .skip) → {u : Run} → u ≡ front ns (r .node) (r .skip) (r .left) → (k : ℕ) → 1 ≤ k → k ≤ u .len → Next xs ns f n done (r .left) (record { start = u .start; len = k })
+    pub along-next : Front ns (r .node) (r .skip) → {u : Run} → u ≡ front ns (r .node) (r .skip) (r .left) → (k : ℕ) → 1 ≤ k → k ≤ u .len
+        → Next xs ns f n done (r .left) (record { start = u .start; len = k })
     unfolding front
     along-next v e k h q =
         let z = cons-at (length xs) ns (r .node) (v .cons) (node-at (length xs) ns (r .node) (w .good) (w .ready lt .low)) in

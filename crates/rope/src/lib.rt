@@ -4,17 +4,17 @@
 use words::Run;
 ghost use mathlib.Core.Path.{_≡_};
 ghost use mathlib.Core.List.{[]};
-ghost use Prim.Native.Nat.{_+_, _*_, _-_, _<_, _≤_};
+ghost use Prim.Native.Nat.{_+_, _-_, _<_, _≤_};
 ghost use lib.ListN.{length, take, drop};
 ghost use lib.Seq.{sets};
-ghost use Rattle.term_spec.specs.Words.{decode, write};
-ghost use Rattle.term_spec.specs.Term.{termLayout};
-ghost use Rattle.view_spec.specs.Node.{nodeAt, holds};
+ghost use Rattle.term_spec.specs.Words.{Lies, decode, records, write};
+ghost use Rattle.term_spec.specs.Term.{termLayout, limit};
+ghost use Rattle.view_spec.specs.Node.{holds};
 ghost use Rattle.view_spec.specs.Read.{equalTerms};
 ghost use Rattle.words.specs.Records.{asRun};
-ghost use Rattle.nodes.specs.Store.{nodesIn, Store};
-ghost use Rattle.value.specs.Equal.{Store as TermStore, valuesIn};
-ghost use Rattle.rope.specs.Pieces.{restOf, Ready, Goes, Front, front as frontOf, passed};
+ghost use Rattle.nodes.specs.NodeStore.{nodesIn, NodeStore, AnyStore, Reaches};
+ghost use Rattle.value.specs.Equal.{TermStore, valuesIn};
+ghost use Rattle.rope.specs.Pieces.{Rest, mostFields, restOf, Ready, Goes, Front, front as frontOf, passed, Below};
 
 // What is to be read next: `left` terms of a node after its first `skip`, then the fields on a stack of `depth` fields, the last one first.
 struct Piece {
@@ -29,16 +29,15 @@ const MOST_FIELDS: usize = 32;
 
 const STACK_WORDS: usize = 64;
 
-// The same terms, with a piece that begins with a run. Where the stack is full it is emptied, and the terms of its fields are left out.
-fn settle(
-    nodes: &[u32],
-    terms: usize,
-    used: usize,
-    stack: &mut [u32; STACK_WORDS],
-    at: Piece,
-) -> Piece
-    requires { ⌜ Store (now nodes) terms used × Ready (nodesIn (now nodes) used) (restOf at (now stack)) × (at .depth ≤ 32) ⌝ }
-    ensures { λ r. ⌜ (r .depth ≤ 32) × Goes (nodesIn (now (nodes .entry)) used) terms (restOf at (now (stack .entry))) (restOf r (now (stack .exit))) × Front (nodesIn (now (nodes .entry)) used) (r .node) (r .skip) ⌝ }
+// The same terms, down to a piece that begins with a run. Where the stack is full it is emptied, and the terms of its fields are left out.
+fn to_run(nodes: &[u32], used: usize, stack: &mut [u32; STACK_WORDS], at: Piece) -> Piece
+    requires { let ns = nodesIn (now nodes) used in
+        ⌜ AnyStore (now nodes) used × Ready ns (restOf at (now stack)) × (at .depth ≤ mostFields) ⌝ }
+    ensures { λ r.
+        let ns = nodesIn (now (nodes .entry)) used in
+        let before = restOf at (now (stack .entry)) in
+        let after = restOf r (now (stack .exit)) in
+        ⌜ (r .depth ≤ mostFields) × Goes ns before after × Front ns (r .node) (r .skip) ⌝ }
 {
     let mut at = at;
     loop {
@@ -48,7 +47,7 @@ fn settle(
             at.node = n.c;
             continue;
         }
-        if n.kind == 1 {
+        if n.kind == words::CONS {
             return at;
         }
         let here = n.b - at.skip;
@@ -68,10 +67,11 @@ fn settle(
     }
 }
 
-// The run that a settled piece begins with.
-fn front(nodes: &[u32], terms: usize, used: usize, at: Piece) -> Run
-    requires { ⌜ Store (now nodes) terms used × (terms ≤ 65536) × (at .node < used) × Front (nodesIn (now nodes) used) (at .node) (at .skip) ⌝ }
-    ensures { λ r. ⌜ asRun r ≡ frontOf (nodesIn (now (nodes .entry)) used) (at .node) (at .skip) (at .left) ⌝ }
+// The run that such a piece begins with.
+fn front(nodes: &[u32], used: usize, at: Piece) -> Run
+    requires { ⌜ AnyStore (now nodes) used × (at .node < used) × Front (nodesIn (now nodes) used) (at .node) (at .skip) ⌝ }
+    ensures { λ r.
+        ⌜ asRun r ≡ frontOf (nodesIn (now (nodes .entry)) used) (at .node) (at .skip) (at .left) ⌝ }
 {
     let n = words::get_node(nodes, at.node);
     Run {
@@ -89,8 +89,11 @@ fn past(
     done: usize,
     len: usize,
 ) -> Piece
-    requires { ⌜ (k ≤ at .left) × (at .skip + at .left ≤ 65536) × (at .depth ≤ 32) × (done ≤ len) ⌝ }
-    ensures { λ r. ⌜ (r .depth ≤ 32) × (restOf r (now (stack .entry)) ≡ passed (restOf at (now (stack .entry))) k (record { node = node; skip = done; left = len - done; later = [] })) ⌝ }
+    requires { ⌜ (k ≤ at .left) × (at .skip + at .left ≤ limit) × (at .depth ≤ mostFields) × (done ≤ len) ⌝ }
+    ensures { λ r.
+        let fields = now (stack .entry) in
+        let again : Rest = record { node = node; skip = done; left = len - done; later = [] } in
+        ⌜ (r .depth ≤ mostFields) × (restOf r fields ≡ passed (restOf at fields) k again) ⌝ }
 {
     let depth = at.depth;
     if k < at.left {
@@ -128,10 +131,13 @@ pub fn equal_fronts(
     g: usize,
     n: usize,
 ) -> bool
-    requires { ⌜ TermStore (now names) (now terms) «terms_used» × Store (now nodes) «terms_used» «nodes_used» × («terms_used» ≤ 65536) ⌝ }
-    requires { ⌜ (f < «nodes_used») × (n ≤ (nodeAt (nodesIn (now nodes) «nodes_used») f) .reach) ⌝ }
-    requires { ⌜ (g < «nodes_used») × (n ≤ (nodeAt (nodesIn (now nodes) «nodes_used») g) .reach) ⌝ }
-    ensures { λ r. ⌜ r ≡ equalTerms (holds (valuesIn (now (names .entry)) (now (terms .entry)) «terms_used») (nodesIn (now (nodes .entry)) «nodes_used») (record { node = f; len = n })) (holds (valuesIn (now (names .entry)) (now (terms .entry)) «terms_used») (nodesIn (now (nodes .entry)) «nodes_used») (record { node = g; len = n })) ⌝ }
+    requires { ⌜ TermStore (now names) (now terms) «terms_used» × («terms_used» ≤ limit) ⌝ }
+    requires { ⌜ NodeStore (now nodes) «terms_used» «nodes_used» ⌝ }
+    requires { ⌜ Reaches (now nodes) «nodes_used» f n × Reaches (now nodes) «nodes_used» g n ⌝ }
+    ensures { λ r.
+        let vs = valuesIn (now (names .entry)) (now (terms .entry)) «terms_used» in
+        let ns = nodesIn (now (nodes .entry)) «nodes_used» in
+        ⌜ r ≡ equalTerms (holds vs ns (record { node = f; len = n })) (holds vs ns (record { node = g; len = n })) ⌝ }
 {
     if f == g {
         return true;
@@ -152,10 +158,10 @@ pub fn equal_fronts(
     };
     let mut done = 0;
     while done < n {
-        a = settle(nodes, terms_used, nodes_used, &mut f_stack, a);
-        b = settle(nodes, terms_used, nodes_used, &mut g_stack, b);
-        let r = front(nodes, terms_used, nodes_used, a);
-        let s = front(nodes, terms_used, nodes_used, b);
+        a = to_run(nodes, nodes_used, &mut f_stack, a);
+        b = to_run(nodes, nodes_used, &mut g_stack, b);
+        let r = front(nodes, nodes_used, a);
+        let s = front(nodes, nodes_used, b);
         let k = nodes::smaller(r.len, s.len);
         if !equality::equal_runs(names, terms, terms_used, r.start, k, s.start, k) {
             return false;
@@ -170,7 +176,8 @@ pub fn equal_fronts(
 // n words from `from` on go to another slice, at `to` and after it.
 fn copy_words(source: &[u32], target: &mut [u32], from: usize, to: usize, n: usize)
     requires { ⌜ (from + n ≤ length (now source)) × (to + n ≤ length (now target)) ⌝ }
-    ensures { λ _. ⌜ now (target .exit) ≡ sets (now (target .entry)) to (take n (drop from (now (source .entry)))) ⌝ }
+    ensures { λ _.
+        ⌜ now (target .exit) ≡ sets (now (target .entry)) to (take n (drop from (now (source .entry)))) ⌝ }
 {
     let mut i = 0;
     while i < n {
@@ -182,7 +189,9 @@ fn copy_words(source: &[u32], target: &mut [u32], from: usize, to: usize, n: usi
 // n words from `from` on go to `to` and after it, which lies past them.
 fn copy_words_up(words: &mut [u32], from: usize, to: usize, n: usize)
     requires { ⌜ (from + n ≤ to) × (to + n ≤ length (now words)) ⌝ }
-    ensures { λ _. ⌜ now (words .exit) ≡ sets (now (words .entry)) to (take n (drop from (now (words .entry)))) ⌝ }
+    ensures { λ _.
+        let before = now (words .entry) in
+        ⌜ now (words .exit) ≡ sets before to (take n (drop from before)) ⌝ }
 {
     let mut i = 0;
     while i < n {
@@ -194,17 +203,18 @@ fn copy_words_up(words: &mut [u32], from: usize, to: usize, n: usize)
 // The first len terms of a node become the first records of a work buffer.
 pub fn copy_out(
     terms: &[u32],
-    terms_used: usize,
     nodes: &[u32],
     nodes_used: usize,
     node: usize,
     len: usize,
     work: &mut [u32],
 )
-    requires { ⌜ («terms_used» * 4 ≤ length (now terms)) × («terms_used» ≤ 65536) × Store (now nodes) «terms_used» «nodes_used» ⌝ }
-    requires { ⌜ (node < «nodes_used») × (len ≤ (nodeAt (nodesIn (now nodes) «nodes_used») node) .reach) ⌝ }
-    requires { ⌜ len * 4 ≤ length (now work) ⌝ }
-    ensures { λ _. ⌜ now (work .exit) ≡ write termLayout (now (work .entry)) 0 (holds (decode termLayout «terms_used» (now (terms .entry))) (nodesIn (now (nodes .entry)) «nodes_used») (record { node = node; len = len })) ⌝ }
+    requires { ⌜ Below (now terms) (now nodes) «nodes_used» × Reaches (now nodes) «nodes_used» node len ⌝ }
+    requires { ⌜ Lies termLayout (now work) len ⌝ }
+    ensures { λ _.
+        let ns = nodesIn (now (nodes .entry)) «nodes_used» in
+        let shown = holds (records termLayout (now (terms .entry))) ns (record { node = node; len = len }) in
+        ⌜ now (work .exit) ≡ write termLayout (now (work .entry)) 0 shown ⌝ }
 {
     let mut stack = [0u32; STACK_WORDS];
     let mut at = Piece {
@@ -215,8 +225,8 @@ pub fn copy_out(
     };
     let mut done = 0;
     while done < len {
-        at = settle(nodes, terms_used, nodes_used, &mut stack, at);
-        let r = front(nodes, terms_used, nodes_used, at);
+        at = to_run(nodes, nodes_used, &mut stack, at);
+        let r = front(nodes, nodes_used, at);
         copy_words(
             terms,
             work,
@@ -238,10 +248,14 @@ pub fn copy_after(
     node: usize,
     len: usize,
 )
-    requires { ⌜ («terms_used» ≤ 65536) × Store (now nodes) «terms_used» «nodes_used» ⌝ }
-    requires { ⌜ (node < «nodes_used») × (len ≤ (nodeAt (nodesIn (now nodes) «nodes_used») node) .reach) ⌝ }
-    requires { ⌜ («terms_used» + len) * 4 ≤ length (now terms) ⌝ }
-    ensures { λ _. ⌜ now (terms .exit) ≡ write termLayout (now (terms .entry)) «terms_used» (holds (decode termLayout «terms_used» (now (terms .entry))) (nodesIn (now (nodes .entry)) «nodes_used») (record { node = node; len = len })) ⌝ }
+    requires { ⌜ NodeStore (now nodes) «terms_used» «nodes_used» × («terms_used» ≤ limit) ⌝ }
+    requires { ⌜ Reaches (now nodes) «nodes_used» node len ⌝ }
+    requires { ⌜ Lies termLayout (now terms) («terms_used» + len) ⌝ }
+    ensures { λ _.
+        let before = now (terms .entry) in
+        let ns = nodesIn (now (nodes .entry)) «nodes_used» in
+        let shown = holds (decode termLayout «terms_used» before) ns (record { node = node; len = len }) in
+        ⌜ now (terms .exit) ≡ write termLayout before «terms_used» shown ⌝ }
 {
     let mut stack = [0u32; STACK_WORDS];
     let mut at = Piece {
@@ -252,8 +266,8 @@ pub fn copy_after(
     };
     let mut done = 0;
     while done < len {
-        at = settle(nodes, terms_used, nodes_used, &mut stack, at);
-        let r = front(nodes, terms_used, nodes_used, at);
+        at = to_run(nodes, nodes_used, &mut stack, at);
+        let r = front(nodes, nodes_used, at);
         copy_words_up(
             terms,
             r.start * words::TERM_WIDTH,

@@ -9,76 +9,72 @@ use Prim.Native.Nat.{ℕ, suc, zero, _+_, _-_, _*_, _<_, _≤_}
 use native.Mathlib.Numerals.{add-one}
 use native.Mathlib.Omega.{arith}
 use Rattle.term_spec.specs.BoolLaws.{both-of, T-true}
-use Rattle.sheet_spec.specs.Sheet.{numberAt, beyond, numbersOk, zerosOk, lineWidth, lineOk, linesOk, numbersAt, wordsAt}
+use Rattle.sheet_spec.specs.Sheet.{columnWidth, numberAt, beyond, numbersOk, zerosOk, lineWidth, lineOk, linesOk, numbersAt, wordsAt}
 use Rattle.sheet_spec.specs.LineLaws.{numbers-length, words-length}
 use Rattle.sheet_spec.specs.Job.{laid, laidAt}
+use Rattle.sheet_read.specs.Read.{numbersBelow}
 use Rattle.sheet_spec.specs.LaidLaws.{laidAt-length, laidAt-none, laidAt-start, laidAt-next, laidAt-snoc, laid-length}
 
--- ---- numbers and zeros ----
+-- ---- numbers below a bound ----
 
--- What is asked of k of them is asked of those left where i are passed: at first of all.
-pub numbers-start : (text : List ℕ) (p k : ℕ) → numbersOk text p k ≡ numbersOk text (p + 10 * 0) (k - 0)
-numbers-start text p k = let z : p ≡ p + 10 * 0 = omega arith in let e : k ≡ k - 0 = omega arith in ap₂ (numbersOk text) z e
+-- Numbers in form, and zeros.
+pub below-numbers : (text : List ℕ) (p k : ℕ) → numbersBelow text beyond p k ≡ numbersOk text p k
+unfolding numbersBelow numbersOk
+below-numbers text p zero = refl
+below-numbers text p (suc k) = ap (ltb (numberAt text p) beyond &&_) (below-numbers text (p + columnWidth) k)
 
-pub zeros-start : (text : List ℕ) (p k : ℕ) → zerosOk text p k ≡ zerosOk text (p + 10 * 0) (k - 0)
-zeros-start text p k = let z : p ≡ p + 10 * 0 = omega arith in let e : k ≡ k - 0 = omega arith in ap₂ (zerosOk text) z e
+pub below-zeros : (text : List ℕ) (p k : ℕ) → numbersBelow text 1 p k ≡ zerosOk text p k
+unfolding numbersBelow zerosOk
+below-zeros text p zero = refl
+below-zeros text p (suc k) = ap₂ _&&_ (below-one (numberAt text p)) (below-zeros text (p + columnWidth) k)
+  where
+    below-one : (x : ℕ) → ltb x 1 ≡ eqb x 0
+    below-one zero = refl
+    below-one (suc x) = le-ltb (suc x) 1 (omega arith) ∙ sym (ne-eqb (suc x) 0 (λ e. omega arith))
 
--- Then of one and the rest, at the end of none.
-module _ (text : List ℕ) (p k i : ℕ) where
-  module _ (h : i < k) where
-    one-left : k - i ≡ suc (k - (i + 1))
-    one-left = omega arith
+module _ (text : List ℕ) (bound p k : ℕ) where
+  -- What is asked of k of them is asked of those left where i are passed: at first of all.
+  pub below-start : numbersBelow text bound p k ≡ numbersBelow text bound (p + columnWidth * 0) (k - 0)
+  below-start = let z : p ≡ p + columnWidth * 0 = omega arith in let e : k ≡ k - 0 = omega arith in ap₂ (numbersBelow text bound) z e
 
-    numbers-left : numbersOk text (p + 10 * i) (k - i) ≡ ltb (numberAt text (p + 10 * i)) beyond && numbersOk text (p + 10 * (i + 1)) (k - (i + 1))
-    unfolding numbersOk
-    numbers-left = let z : p + 10 * i + 10 ≡ p + 10 * (i + 1) = omega arith in rw (one-left, z)
+  -- Then of one and the rest, at the end of none.
+  module _ (i : ℕ) (e : numbersBelow text bound p k ≡ numbersBelow text bound (p + columnWidth * i) (k - i)) where
+    module _ {x : ℕ} (h : i < k) (n : x ≡ numberAt text (p + columnWidth * i)) where
+      below-left : numbersBelow text bound p k ≡ ltb x bound && numbersBelow text bound (p + columnWidth * (i + 1)) (k - (i + 1))
+      unfolding numbersBelow
+      below-left =
+          let one : k - i ≡ suc (k - (i + 1)) = omega arith in
+          let z : p + columnWidth * i + columnWidth ≡ p + columnWidth * (i + 1) = omega arith in
+          e ∙ rw (one, z, n)
 
-    zeros-left : zerosOk text (p + 10 * i) (k - i) ≡ eqb (numberAt text (p + 10 * i)) 0 && zerosOk text (p + 10 * (i + 1)) (k - (i + 1))
-    unfolding zerosOk
-    zeros-left = let z : p + 10 * i + 10 ≡ p + 10 * (i + 1) = omega arith in rw (one-left, z)
+      pub below-stop : bound ≤ x → false ≡ numbersBelow text bound p k
+      below-stop w = sym (below-left ∙ simp (le-ltb x bound w))
 
-    module _ {x : ℕ} (n : x ≡ numberAt text (p + 10 * i)) where
-      module _ (e : numbersOk text p k ≡ numbersOk text (p + 10 * i) (k - i)) where
-        pub numbers-stop : beyond ≤ x → false ≡ numbersOk text p k
-        numbers-stop w = sym (e ∙ numbers-left ∙ simp (← n, le-ltb x beyond w))
+      pub below-next : x < bound → numbersBelow text bound p k ≡ numbersBelow text bound (p + columnWidth * (i + 1)) (k - (i + 1))
+      below-next w = below-left ∙ simp (lt-ltb x bound w)
 
-        pub numbers-next : x < beyond → numbersOk text p k ≡ numbersOk text (p + 10 * (i + 1)) (k - (i + 1))
-        numbers-next w = e ∙ numbers-left ∙ simp (← n, lt-ltb x beyond w)
-
-      module _ (e : zerosOk text p k ≡ zerosOk text (p + 10 * i) (k - i)) where
-        pub zeros-stop : (x ≡ 0 → ⊥) → false ≡ zerosOk text p k
-        zeros-stop w = sym (e ∙ zeros-left ∙ simp (← n, ne-eqb x 0 w))
-
-        pub zeros-next : x ≡ 0 → zerosOk text p k ≡ zerosOk text (p + 10 * (i + 1)) (k - (i + 1))
-        zeros-next w = e ∙ zeros-left ∙ simp (← n, w)
-
-  module _ (h : k ≤ i) where
-    pub numbers-done : numbersOk text p k ≡ numbersOk text (p + 10 * i) (k - i) → true ≡ numbersOk text p k
-    unfolding numbersOk
-    numbers-done e = let z : k - i ≡ 0 = omega arith in sym (rw z at e)
-
-    pub zeros-done : zerosOk text p k ≡ zerosOk text (p + 10 * i) (k - i) → true ≡ zerosOk text p k
-    unfolding zerosOk
-    zeros-done e = let z : k - i ≡ 0 = omega arith in sym (rw z at e)
+    pub below-done : k ≤ i → true ≡ numbersBelow text bound p k
+    unfolding numbersBelow
+    below-done h = let z : k - i ≡ 0 = omega arith in sym (rw z at e)
 
 -- Numbers in form are below the bound.
-pub number-below : (text : List ℕ) (p k i : ℕ) → T (numbersOk text p k) → i < k → numberAt text (p + 10 * i) < beyond
+pub number-below : (text : List ℕ) (p k i : ℕ) → T (numbersOk text p k) → i < k → numberAt text (p + columnWidth * i) < beyond
 unfolding numbersOk
 number-below text p zero i t h = omega arith
 number-below text p (suc k) zero t h =
-    let z : p + 10 * 0 ≡ p = omega arith in
-    rw z (ltb-true _ _ (T-true _ (both-of (ltb (numberAt text p) beyond) (numbersOk text (p + 10) k) t .0)))
+    let z : p + columnWidth * 0 ≡ p = omega arith in
+    rw z (ltb-true _ _ (T-true _ (both-of (ltb (numberAt text p) beyond) (numbersOk text (p + columnWidth) k) t .0)))
 number-below text p (suc k) (suc i) t h =
-    let z : p + 10 * suc i ≡ p + 10 + 10 * i = omega arith in
-    rw z (number-below text (p + 10) k i (both-of (ltb (numberAt text p) beyond) _ t .1) (omega arith))
+    let z : p + columnWidth * suc i ≡ p + columnWidth + columnWidth * i = omega arith in
+    rw z (number-below text (p + columnWidth) k i (both-of (ltb (numberAt text p) beyond) _ t .1) (omega arith))
 
 -- One number more.
-numbers-more : (text : List ℕ) (p i : ℕ) → numbersAt text p (suc i) ≡ numbersAt text p i ++ numberAt text (p + 10 * i) ∷ []
+numbers-more : (text : List ℕ) (p i : ℕ) → numbersAt text p (suc i) ≡ numbersAt text p i ++ numberAt text (p + columnWidth * i) ∷ []
 unfolding numbersAt
-numbers-more text p zero = let z : p + 10 * 0 ≡ p = omega arith in rw z
+numbers-more text p zero = let z : p + columnWidth * 0 ≡ p = omega arith in rw z
 numbers-more text p (suc i) =
-    let z : p + 10 * suc i ≡ p + 10 + 10 * i = omega arith in
-    ap (numberAt text p ∷_) (rw z (numbers-more text (p + 10) i))
+    let z : p + columnWidth * suc i ≡ p + columnWidth + columnWidth * i = omega arith in
+    ap (numberAt text p ∷_) (rw z (numbers-more text (p + columnWidth) i))
 
 -- So many numbers in the words from w on, and one number more.
 module _ (text : List ℕ) (p i : ℕ) (out₀ : List ℕ) (w : ℕ) where
@@ -92,9 +88,11 @@ module _ (text : List ℕ) (p i : ℕ) (out₀ : List ℕ) (w : ℕ) where
   pub numbers-room : {out : List ℕ} → w + i < length out₀ → out ≡ laidAt out₀ w (numbersAt text p i) → w + i < length out
   numbers-room h e = omega (arith, ap length e ∙ numbers-kept (omega arith))
 
-  pub numbers-set : {out new : List ℕ} {x : ℕ} → w + i < length out₀ → out ≡ laidAt out₀ w (numbersAt text p i) → x ≡ numberAt text (p + 10 * i) → new ≡ set out (w + i) x → new ≡ laidAt out₀ w (numbersAt text p (i + 1))
+  pub numbers-set :
+      {out new : List ℕ} {x : ℕ} → w + i < length out₀ → out ≡ laidAt out₀ w (numbersAt text p i) → x ≡ numberAt text (p + columnWidth * i)
+      → new ≡ set out (w + i) x → new ≡ laidAt out₀ w (numbersAt text p (i + 1))
   numbers-set h e f g =
-      g ∙ ap₂ (λ o y. set o (w + i) y) e f ∙ laidAt-snoc out₀ w (w + i) (numbersAt text p i) (numberAt text (p + 10 * i)) (ap (w +_) (sym (numbers-length text p i))) h
+      g ∙ ap₂ (λ o y. set o (w + i) y) e f ∙ laidAt-snoc out₀ w (w + i) (numbersAt text p i) (numberAt text (p + columnWidth * i)) (ap (w +_) (sym (numbers-length text p i))) h
       ∙ ap (laidAt out₀ w) (rw add-one (sym (numbers-more text p i)))
 
   pub numbers-all : (k : ℕ) {out : List ℕ} → i ≤ k → k ≤ i → out ≡ laidAt out₀ w (numbersAt text p i) → out ≡ laidAt out₀ w (numbersAt text p k)
@@ -103,19 +101,19 @@ module _ (text : List ℕ) (p i : ℕ) (out₀ : List ℕ) (w : ℕ) where
 -- ---- lines ----
 
 -- A line, exit by exit.
-module _ (text : List ℕ) (p kept zeros : ℕ) {a : Bool} (e : a ≡ numbersOk text p kept) where
+module _ (text : List ℕ) (p kept zeros : ℕ) {a : Bool} (e : a ≡ numbersBelow text beyond p kept) where
   pub line-numbers-stop : a ≡ false → false ≡ lineOk text p kept zeros
   unfolding lineOk
-  line-numbers-stop f = simp (← e, f)
+  line-numbers-stop f = simp (← below-numbers, ← e, f)
 
-  module _ {b : Bool} (g : b ≡ zerosOk text (p + 10 * kept) zeros) (t : a ≡ true) where
+  module _ {b : Bool} (g : b ≡ numbersBelow text 1 (p + columnWidth * kept) zeros) (t : a ≡ true) where
     pub line-zeros-stop : b ≡ false → false ≡ lineOk text p kept zeros
     unfolding lineOk
-    line-zeros-stop f = simp (← e, ← g, t, f)
+    line-zeros-stop f = simp (← below-numbers, ← below-zeros, ← e, ← g, t, f)
 
-    pub line-end : {x : ℕ} → b ≡ true → x ≡ getD text (p + 10 * (kept + zeros)) 0 → eqb x 10 ≡ lineOk text p kept zeros
+    pub line-end : {x q : ℕ} → b ≡ true → q ≡ columnWidth * (kept + zeros) → x ≡ getD text (p + q) 0 → eqb x 10 ≡ lineOk text p kept zeros
     unfolding lineOk
-    line-end f n = simp (← e, ← g, t, f, ← n)
+    line-end f z n = simp (← below-numbers, ← below-zeros, ← e, ← g, t, f, ← z, ← n)
 
 -- The lines that are left fit: at first all, then one and the rest.
 pub room-start : (p w n m : ℕ) → p + w * n ≤ m → p + w * (n - 0) ≤ m
@@ -144,8 +142,10 @@ module _ (text : List ℕ) (kept zeros : ℕ) where
     pub lines-stop : {b : Bool} → i < n → b ≡ lineOk text at kept zeros → b ≡ false → false ≡ linesOk text p kept zeros n
     lines-stop h l f = sym (e ∙ lines-left h ∙ simp (← l, f))
 
-    pub lines-next : {b : Bool} → i < n → b ≡ lineOk text at kept zeros → b ≡ true → linesOk text p kept zeros n ≡ linesOk text (at + lineWidth kept zeros) kept zeros (n - (i + 1))
-    lines-next h l f = e ∙ lines-left h ∙ simp (← l, f)
+    pub lines-next :
+        {b : Bool} {w : ℕ} → i < n → w ≡ lineWidth kept zeros → b ≡ lineOk text at kept zeros → b ≡ true
+        → linesOk text p kept zeros n ≡ linesOk text (at + w) kept zeros (n - (i + 1))
+    lines-next h z l f = e ∙ lines-left h ∙ simp (← l, f, z)
 
     pub lines-done : n ≤ i → true ≡ linesOk text p kept zeros n
     unfolding linesOk
@@ -154,7 +154,9 @@ module _ (text : List ℕ) (kept zeros : ℕ) where
   -- Lines in form have their numbers in form.
   line-numbers : (p : ℕ) → T (lineOk text p kept zeros) → T (numbersOk text p kept)
   unfolding lineOk
-  line-numbers p t = both-of (numbersOk text p kept) (zerosOk text (p + 10 * kept) zeros) (both-of (numbersOk text p kept && zerosOk text (p + 10 * kept) zeros) (eqb (getD text (p + 10 * (kept + zeros)) 0) 10) t .0) .0
+  line-numbers p t =
+      let (a, b) : Bool × Bool = (numbersOk text p kept, zerosOk text (p + columnWidth * kept) zeros) in
+      both-of a b (both-of (a && b) (eqb (getD text (p + columnWidth * (kept + zeros)) 0) 10) t .0) .0
 
   pub line-in : (p n i : ℕ) → T (linesOk text p kept zeros n) → i < n → T (numbersOk text (p + lineWidth kept zeros * i) kept)
   unfolding linesOk
@@ -175,7 +177,9 @@ module _ (text : List ℕ) (kept zeros : ℕ) where
   words-more p zero = let z : p + lineWidth kept zeros * 0 ≡ p = omega arith in rw z (append-nil (numbersAt text p kept))
   words-more p (suc i) =
       let z : p + lineWidth kept zeros * suc i ≡ p + lineWidth kept zeros + lineWidth kept zeros * i = omega arith in
-      rw z (ap (numbersAt text p kept ++_) (words-more (p + lineWidth kept zeros) i) ∙ sym (append-assoc (numbersAt text p kept) (wordsAt text (p + lineWidth kept zeros) kept zeros i) (numbersAt text (p + lineWidth kept zeros + lineWidth kept zeros * i) kept)))
+      let q : ℕ = p + lineWidth kept zeros in
+      let one : List ℕ = numbersAt text p kept in
+      rw z (ap (one ++_) (words-more q i) ∙ sym (append-assoc one (wordsAt text q kept zeros i) (numbersAt text (q + lineWidth kept zeros * i) kept)))
 
   -- So many lines in the first words, and one line more.
   pub words-none : (p : ℕ) (out₀ : List ℕ) → out₀ ≡ laid (wordsAt text p kept zeros 0) out₀

@@ -1,129 +1,109 @@
 -- Laws of the whole sheet, exit by exit of the code.
-use mathlib.Core.Path.{_≡_, ap, ap₂, sym, _∙_}
+use mathlib.Core.Path.{_≡_, refl, ap, ap₂, sym, _∙_}
 use mathlib.Core.List.{List, []}
 use mathlib.Core.Option.{Option, some, none}
-use mathlib.Core.Bool.{Bool, true, false, not, _&&_}
-use borrow.Author.Tests.{not-false, le-leb, lt-leb, eq-eqb, ne-eqb}
+use mathlib.Core.Bool.{Bool, true, false, _&&_}
+use borrow.Author.Tests.{le-leb, lt-leb, eq-eqb, ne-eqb}
 use lib.Dec.{T, leb, eqb}
 use lib.ListN.{length, take, drop, getD}
 use Prim.Native.Nat.{ℕ, _+_, _-_, _*_, _<_, _≤_}
 use native.Mathlib.Omega.{arith}
-use Rattle.term_spec.specs.BoolLaws.{true-T}
-use Rattle.sheet_spec.specs.Sheet.{numberAt, limits, Counts, lineOk, linesOk, termsStart, namesStart, patternStart, runsStart, sheetEnd, headRule, bodyRule, countsAt, Sheet, sheetAt, readSheet}
-use Rattle.sheet_spec.specs.Job.{namesPart, laid, refusedSheet, counted, AfterSheet, unread, readInto}
+use Rattle.term_spec.specs.BoolLaws.{T-true}
+use Rattle.sheet_spec.specs.Sheet.{columnWidth, countColumns, numberAt, wordsAt, termColumns, itemColumns, runColumns, runZeros, Counts, lineOk, linesOk, Sheet}
+use Rattle.sheet_spec.specs.Sheet.{termsStart, namesStart, patternStart, runsStart, sheetEnd, headRule, bodyRule, countsAt, sheetAt, readSheet}
+use Rattle.sheet_spec.specs.Job.{namesPart, laid, refusedSheet, counted, unread, readInto}
 use Rattle.sheet_spec.specs.LineLaws.{words-length}
-use Rattle.sheet_spec.specs.SheetLaws.{limits-facts, head-facts, body-facts, read-none}
-use Rattle.sheet_read.specs.Read.{leavesSheet}
-
--- A rule holds where the code's test of it is not refused.
-pub rule-holds : {a b : Bool} → a ≡ b → not a ≡ false → T b
-rule-holds e f = true-T _ (sym e ∙ not-false _ f)
+use Rattle.sheet_spec.specs.SheetLaws.{facts-limits, head-facts, read-none}
+use Rattle.sheet_form.specs.Form.{inLimits}
+use Rattle.sheet_read.specs.Read.{InForm, Holds, filled, leavesSheet, readBy}
 
 -- ---- the counts ----
 
 -- The four numbers of the first line.
 pub counts-same :
-    (text : List ℕ) {t n p r : ℕ} → t ≡ numberAt text 0 → n ≡ numberAt text 10 → p ≡ numberAt text 20 → r ≡ numberAt text 30
+    (text : List ℕ) {t n p r : ℕ} → t ≡ numberAt text 0 → n ≡ numberAt text columnWidth → p ≡ numberAt text (2 * columnWidth) → r ≡ numberAt text (3 * columnWidth)
     → _≡_ {A = Counts} (record { terms = t; names = n; pattern = p; runs = r }) (countsAt text)
 unfolding countsAt
 counts-same text a b c d = cc
 
-module _ (t n p r : ℕ) where
-  pub limit-terms : 512 < t → false ≡ limits t n p r
-  unfolding limits
-  limit-terms h = simp (lt-leb t 512 h)
-
-  pub limit-names : t ≤ 512 → 4096 < n → false ≡ limits t n p r
-  unfolding limits
-  limit-names h k = simp (le-leb t 512 h, lt-leb n 4096 k)
-
-  pub limit-pattern : t ≤ 512 → n ≤ 4096 → 256 < p → false ≡ limits t n p r
-  unfolding limits
-  limit-pattern h k l = simp (le-leb t 512 h, le-leb n 4096 k, lt-leb p 256 l)
-
-  pub limit-runs : t ≤ 512 → n ≤ 4096 → p ≤ 256 → leb r 64 ≡ limits t n p r
-  unfolding limits
-  limit-runs h k l = simp (le-leb t 512 h, le-leb n 4096 k, le-leb p 256 l)
-
-  -- Counts within the limits are small.
-  pub limits-in : T (limits t n p r) → (t ≤ 512) × (n ≤ 4096) × (p ≤ 256) × (r ≤ 64)
-  limits-in h = let f = limits-facts t n p r h in (f .terms, f .names, f .pattern, f .runs)
-
-  -- The same, where the code's test of them holds.
-  pub limits-yes : {b : Bool} → b ≡ limits t n p r → not b ≡ false → (t ≤ 512) × (n ≤ 4096) × (p ≤ 256) × (r ≤ 64)
-  limits-yes e f = limits-in (rule-holds e f)
-
 -- ---- the names ----
 
 names-by :
-    (text : List ℕ) (c : Counts) (t : Bool) → limits (c .terms) (c .names) (c .pattern) (c .runs) && leb (namesStart c + c .names) (length text) ≡ t
+    (text : List ℕ) (c : Counts) (t : Bool) → inLimits c && leb (namesStart c + c .names) (length text) ≡ t
     → namesPart text c ≡ elim t as (λ _. List ℕ) [ true ↦ take (c .names) (drop (namesStart c) text) | false ↦ [] ]
 unfolding namesPart
 names-by text c t e = ap (λ x. elim x as (λ _. List ℕ) [ true ↦ take (c .names) (drop (namesStart c) text) | false ↦ [] ]) e
 
-module _ (text : List ℕ) (c : Counts) {b : Bool} (e : b ≡ limits (c .terms) (c .names) (c .pattern) (c .runs)) where
+module _ (text : List ℕ) (c : Counts) {b : Bool} (e : b ≡ inLimits c) where
   pub names-over : b ≡ false → [] ≡ namesPart text c
   names-over f = sym (names-by text c false (simp (← e, f)))
 
   pub names-short : b ≡ true → length text < namesStart c + c .names → [] ≡ namesPart text c
   names-short f h = sym (names-by text c false (simp (← e, f, lt-leb _ _ h)))
 
-  pub names-there : b ≡ true → namesStart c + c .names ≤ length text → take (namesStart c + c .names - namesStart c) (drop (namesStart c) text) ≡ namesPart text c
-  names-there f h =
-      let z : namesStart c + c .names - namesStart c ≡ c .names = omega arith in
-      rw z (sym (names-by text c true (simp (← e, f, le-leb _ _ h))))
+  pub names-there : {x y : ℕ} → x ≡ namesStart c → y ≡ namesStart c + c .names → b ≡ true → y ≤ length text → take (y - x) (drop x text) ≡ namesPart text c
+  names-there {x} {y} i j f h =
+      let z : y - x ≡ c .names = omega arith in
+      ap₂ (λ m n. take m (drop n text)) z i ∙ sym (names-by text c true (simp (← e, f, le-leb (namesStart c + c .names) (length text) (omega arith))))
 
 -- ---- the first line ----
 
 module _ (text : List ℕ) (c : Counts) where
-  module _ {a : Bool} (h : 41 ≤ length text) (e : a ≡ lineOk text 0 4 0) where
+  module _ {a : Bool} (h : termsStart ≤ length text) (e : a ≡ lineOk text 0 countColumns 0) where
     pub head-line-stop : a ≡ false → false ≡ headRule text c
     unfolding headRule
-    head-line-stop f = simp (le-leb 41 (length text) h, ← e, f)
+    head-line-stop f = simp (le-leb termsStart (length text) h, ← e, f)
 
-    module _ {b : Bool} (g : b ≡ limits (c .terms) (c .names) (c .pattern) (c .runs)) (t : a ≡ true) where
+    module _ {b : Bool} (g : b ≡ inLimits c) (t : a ≡ true) where
       pub head-limits-stop : b ≡ false → false ≡ headRule text c
       unfolding headRule
-      head-limits-stop f = simp (le-leb 41 (length text) h, ← e, ← g, t, f)
+      head-limits-stop f = simp (le-leb termsStart (length text) h, ← e, ← g, t, f)
 
-      pub head-end : b ≡ true → eqb (length text) (sheetEnd c) ≡ headRule text c
+      pub head-end : {z : ℕ} → z ≡ sheetEnd c → b ≡ true → eqb (length text) z ≡ headRule text c
       unfolding headRule
-      head-end f = simp (le-leb 41 (length text) h, ← e, ← g, t, f)
+      head-end s f = simp (le-leb termsStart (length text) h, ← e, ← g, t, f, s)
 
-  pub head-short : length text < 41 → headRule text c ≡ false
+  pub head-short : length text < termsStart → headRule text c ≡ false
   unfolding headRule
-  head-short h = simp (lt-leb 41 (length text) h)
+  head-short h = simp (lt-leb termsStart (length text) h)
 
-  -- What the first line says.
-  pub head-says : T (headRule text c) → (c .terms ≤ 512) × (c .names ≤ 4096) × (c .pattern ≤ 256) × (c .runs ≤ 64) × (length text ≡ sheetEnd c)
-  head-says h = let f = head-facts text c h in (f .limited .terms, f .limited .names, f .limited .pattern, f .limited .runs, f .size)
+  -- Its counts are within the limits.
+  pub head-limits : T (headRule text c) → T (inLimits c)
+  head-limits h = facts-limits (c .terms) (c .names) (c .pattern) (c .runs) (head-facts text c h .limited)
 
 -- ---- the lines after it ----
 
 module _ (text : List ℕ) (c : Counts) where
-  module _ {a : Bool} (e : a ≡ linesOk text termsStart 4 0 (c .terms)) where
+  module _ {a : Bool} (e : a ≡ linesOk text termsStart termColumns 0 (c .terms)) where
     pub body-terms-stop : a ≡ false → false ≡ bodyRule text c
     unfolding bodyRule
     body-terms-stop f = simp (← e, f)
 
-    module _ {x : ℕ} (n : x ≡ getD text (namesStart c + c .names) 0) (t : a ≡ true) where
+    module _ {x y : ℕ} (at-end : y ≡ namesStart c + c .names) (n : x ≡ getD text y 0) (t : a ≡ true) where
       pub body-names-stop : (x ≡ 10 → ⊥) → false ≡ bodyRule text c
       unfolding bodyRule
-      body-names-stop f = simp (← e, t, ← n, ne-eqb x 10 f)
+      body-names-stop f = simp (← e, t, ← at-end, ← n, ne-eqb x 10 f)
 
-      module _ {b : Bool} (g : b ≡ linesOk text (patternStart c) 4 0 (c .pattern)) (u : x ≡ 10) where
+      module _ {b : Bool} {p : ℕ} (at-pattern : p ≡ patternStart c) (g : b ≡ linesOk text p itemColumns 0 (c .pattern)) (u : x ≡ 10) where
+        pattern-test : linesOk text (patternStart c) itemColumns 0 (c .pattern) ≡ b
+        pattern-test = sym (g ∙ ap (λ q. linesOk text q itemColumns 0 (c .pattern)) at-pattern)
+
         pub body-pattern-stop : b ≡ false → false ≡ bodyRule text c
         unfolding bodyRule
-        body-pattern-stop f = simp (← e, t, ← n, eq-eqb x 10 u, ← g, f)
+        body-pattern-stop f = simp (← e, t, ← at-end, ← n, eq-eqb x 10 u, pattern-test, f)
 
-        pub body-runs : b ≡ true → linesOk text (runsStart c) 2 2 (c .runs) ≡ bodyRule text c
+        pub body-runs :
+            {d : Bool} {r : ℕ} → r ≡ runsStart c → d ≡ linesOk text r runColumns runZeros (c .runs) → b ≡ true → d ≡ bodyRule text c
         unfolding bodyRule
-        body-runs f = simp (← e, t, ← n, eq-eqb x 10 u, ← g, f)
+        body-runs at-runs k f = k ∙ simp (← e, t, ← at-end, ← n, eq-eqb x 10 u, pattern-test, f, at-runs)
 
-  -- Lines in form.
-  pub body-says :
-      T (bodyRule text c) → T (linesOk text termsStart 4 0 (c .terms)) × T (linesOk text (patternStart c) 4 0 (c .pattern)) × T (linesOk text (runsStart c) 2 2 (c .runs))
-  body-says h = let f = body-facts text c h in (f .terms, f .pattern, f .runs)
+  -- The words of the three parts go to three slices.
+  pub all-filled :
+      (t p r : List ℕ) {t' p' r' : List ℕ} {x y : ℕ} → t' ≡ laid (wordsAt text termsStart termColumns 0 (c .terms)) t
+      → x ≡ patternStart c → p' ≡ laid (wordsAt text x itemColumns 0 (c .pattern)) p
+      → y ≡ runsStart c → r' ≡ laid (wordsAt text y runColumns runZeros (c .runs)) r → (t', p', r') ≡ filled (sheetAt text c) t p r
+  unfolding filled sheetAt
+  all-filled t p r e at-pattern f at-runs g = rw (e, f, g, at-pattern, at-runs) refl
 
 -- ---- the whole ----
 
@@ -142,64 +122,59 @@ module _ (text t p r : List ℕ) where
   unfolding readInto leavesSheet unread
   no-sheet e = ap (λ s. readInto s (countsAt text) t p r) (sym (read-none text e))
 
-  pub sheet-short : length text < 41 → LeftAs 16 text t p r
+  pub sheet-short : length text < termsStart → LeftAs 16 text t p r
   sheet-short h = no-sheet (simp (head-short text (countsAt text) h))
 
   module _ {c : Counts} {a : Bool} (e : c ≡ countsAt text) (g : a ≡ headRule text c) where
     pub sheet-head : a ≡ false → LeftAs 16 text t p r
     sheet-head f = no-sheet (simp (← e, ← g, f))
 
-    module _ {b : Bool} (h : b ≡ bodyRule text c) (u : a ≡ true) where
-      pub sheet-body : b ≡ false → LeftAs 16 text t p r
-      sheet-body f = no-sheet (simp (← e, ← g, u, ← h, f))
+    pub sheet-body : {b : Bool} → b ≡ bodyRule text c → a ≡ true → b ≡ false → LeftAs 16 text t p r
+    sheet-body h u f = no-sheet (simp (← e, ← g, u, ← h, f))
 
-      module _ (v : b ≡ true) where
-        in-form : readSheet text ≡ some (sheetAt text c)
-        in-form = sheet-by text true (simp (← e, ← g, u, ← h, v)) ∙ rw e
+  -- A text in form, with its own counts.
+  module _ {c : Counts} (e : c ≡ countsAt text) (form : InForm text c) where
+    in-form : readSheet text ≡ some (sheetAt text c)
+    in-form = sheet-by text true (simp (← e, T-true (headRule text c) (form .head), T-true (bodyRule text c) (form .body))) ∙ rw e
 
-        -- The slices, one after the other.
-        terms-length : length (sheetAt text c .terms) ≡ 4 * c .terms
-        unfolding sheetAt
-        terms-length = omega (arith, words-length text termsStart 4 0 (c .terms))
+    -- The slices, one after the other.
+    terms-length : length (sheetAt text c .terms) ≡ termColumns * c .terms
+    unfolding sheetAt
+    terms-length = omega (arith, words-length text termsStart termColumns 0 (c .terms))
 
-        pattern-length : length (sheetAt text c .pattern) ≡ 4 * c .pattern
-        unfolding sheetAt
-        pattern-length = omega (arith, words-length text (patternStart c) 4 0 (c .pattern))
+    pattern-length : length (sheetAt text c .pattern) ≡ itemColumns * c .pattern
+    unfolding sheetAt
+    pattern-length = omega (arith, words-length text (patternStart c) itemColumns 0 (c .pattern))
 
-        runs-length : length (sheetAt text c .runs) ≡ 2 * c .runs
-        unfolding sheetAt
-        runs-length = omega (arith, words-length text (runsStart c) 2 2 (c .runs))
+    runs-length : length (sheetAt text c .runs) ≡ runColumns * c .runs
+    unfolding sheetAt
+    runs-length = omega (arith, words-length text (runsStart c) runColumns runZeros (c .runs))
 
-        left-by :
-            (d : Bool) → leb (4 * c .terms) (length t) && leb (4 * c .pattern) (length p) && leb (2 * c .runs) (length r) ≡ d
-            → elim d as (λ _. AfterSheet)
-            [ true ↦ record { answer = counted c; terms = laid (sheetAt text c .terms) t; pattern = laid (sheetAt text c .pattern) p; runs = laid (sheetAt text c .runs) r } | false ↦ unread 14 t p r ]
-            ≡ readInto (readSheet text) (countsAt text) t p r
-        unfolding readInto
-        left-by d f =
-            let same : leb (4 * c .terms) (length t) && leb (4 * c .pattern) (length p) && leb (2 * c .runs) (length r)
-            ≡ leb (length (sheetAt text c .terms)) (length t) && leb (length (sheetAt text c .pattern)) (length p) && leb (length (sheetAt text c .runs)) (length r) =
-            rw (terms-length, pattern-length, runs-length) in
-            ap (λ x. elim x as (λ _. AfterSheet)
-            [ true ↦ record { answer = counted c; terms = laid (sheetAt text c .terms) t; pattern = laid (sheetAt text c .pattern) p; runs = laid (sheetAt text c .runs) r } | false ↦ unread 14 t p r ])
-            (sym f ∙ same)
-            ∙ ap₂ (λ s c. readInto s c t p r) (sym in-form) e
+    left-by :
+        (d : Bool) → leb (termColumns * c .terms) (length t) && leb (itemColumns * c .pattern) (length p) && leb (runColumns * c .runs) (length r) ≡ d
+        → readBy c (sheetAt text c) t p r d ≡ readInto (readSheet text) (countsAt text) t p r
+    unfolding readInto
+    left-by d f =
+        let same : leb (termColumns * c .terms) (length t) && leb (itemColumns * c .pattern) (length p) && leb (runColumns * c .runs) (length r)
+        ≡ leb (length (sheetAt text c .terms)) (length t) && leb (length (sheetAt text c .pattern)) (length p) && leb (length (sheetAt text c .runs)) (length r) =
+        rw (terms-length, pattern-length, runs-length) in
+        ap (readBy c (sheetAt text c) t p r) (sym f ∙ same) ∙ ap₂ (λ s c. readInto s c t p r) (sym in-form) e
 
-        pub terms-short : length t < 4 * c .terms → LeftAs 14 text t p r
-        unfolding leavesSheet unread
-        terms-short i = left-by false (simp (lt-leb _ _ i))
+    pub terms-short : length t < termColumns * c .terms → LeftAs 14 text t p r
+    unfolding leavesSheet unread
+    terms-short i = left-by false (simp (lt-leb _ _ i))
 
-        pub pattern-short : 4 * c .terms ≤ length t → length p < 4 * c .pattern → LeftAs 14 text t p r
-        unfolding leavesSheet unread
-        pattern-short i j = left-by false (simp (le-leb _ _ i, lt-leb _ _ j))
+    pub pattern-short : termColumns * c .terms ≤ length t → length p < itemColumns * c .pattern → LeftAs 14 text t p r
+    unfolding leavesSheet unread
+    pattern-short i j = left-by false (simp (le-leb _ _ i, lt-leb _ _ j))
 
-        module _ (i : 4 * c .terms ≤ length t) (j : 4 * c .pattern ≤ length p) where
-          pub runs-short : length r < 2 * c .runs → LeftAs 14 text t p r
-          unfolding leavesSheet unread
-          runs-short k = left-by false (simp (le-leb _ _ i, le-leb _ _ j, lt-leb _ _ k))
+    pub runs-short : termColumns * c .terms ≤ length t → itemColumns * c .pattern ≤ length p → length r < runColumns * c .runs → LeftAs 14 text t p r
+    unfolding leavesSheet unread
+    runs-short i j k = left-by false (simp (le-leb _ _ i, le-leb _ _ j, lt-leb _ _ k))
 
-          pub sheet-read :
-              {t' p' r' : List ℕ} → 2 * c .runs ≤ length r → (t' ≡ laid (sheetAt text c .terms) t) × (p' ≡ laid (sheetAt text c .pattern) p) × (r' ≡ laid (sheetAt text c .runs) r)
-              → leavesSheet (counted c) t' p' r' ≡ readInto (readSheet text) (countsAt text) t p r
-          unfolding leavesSheet
-          sheet-read k (x, y, z) = rw (x, y, z) (left-by true (simp (le-leb _ _ i, le-leb _ _ j, le-leb _ _ k)))
+    pub sheet-read :
+        {t' p' r' : List ℕ} → Holds c t p r → (t', p', r') ≡ filled (sheetAt text c) t p r
+        → leavesSheet (counted c) t' p' r' ≡ readInto (readSheet text) (countsAt text) t p r
+    unfolding leavesSheet filled
+    sheet-read h same =
+        ap (λ x. leavesSheet (counted c) (x .0) (x .1) (x .2)) same ∙ left-by true (simp (le-leb _ _ (h .terms), le-leb _ _ (h .pattern), le-leb _ _ (h .runs)))

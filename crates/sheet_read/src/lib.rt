@@ -1,11 +1,16 @@
 // Reading a sheet from its text (01, "The sheet"): numbers in columns, lines, the whole. 16 for anything else.
+use sheet_form::Counts;
+use sheet_form::LineForm;
+use words::refusal;
 ghost use mathlib.Core.Path.{_≡_};
 ghost use lib.Dec.{T};
 ghost use lib.ListN.{length, getD};
 ghost use Prim.Native.Nat.{_+_, _*_, _<_, _≤_};
-ghost use Rattle.sheet_spec.specs.Sheet.{byte, numberAt, numbersOk, zerosOk, lineOk, lineWidth, linesOk, numbersAt, wordsAt, limits, countsAt, headRule, bodyRule, sheetAt, readSheet};
+ghost use Rattle.sheet_spec.specs.Sheet.{byte, columnWidth, numberAt, numbersOk, lineOk, lineWidth, linesOk, numbersAt, wordsAt};
+ghost use Rattle.sheet_spec.specs.Sheet.{termsStart, countsAt, headRule, bodyRule, sheetAt, readSheet};
 ghost use Rattle.sheet_spec.specs.Job.{laid, laidAt, namesPart, readInto};
-ghost use Rattle.sheet_read.specs.Read.{asColumns, asCounts, readOf, leavesSheet};
+ghost use Rattle.sheet_form.specs.Form.{Short, asCounts};
+ghost use Rattle.sheet_read.specs.Read.{asColumns, numbersBelow, InForm, Holds, filled, readOf, leavesSheet};
 
 // Columns read from the left: in form so far; a digit was seen; the number up to here.
 pub struct Columns {
@@ -30,25 +35,11 @@ impl Columns {
     };
 }
 
-// The counts of a sheet: terms, name bytes, pattern records, runs.
-pub struct Counts {
-    pub terms: usize,
-    pub names: usize,
-    pub pattern: usize,
-    pub runs: usize,
-}
-
 // What reading a sheet answers.
 pub enum SheetRead {
     Counted(Counts),
     Refused(usize),
 }
-
-// Numbers are below it.
-pub const BEYOND: usize = 4294967296;
-
-// The bytes of a line of four numbers.
-pub const LINE: usize = 41;
 
 // ---- numbers ----
 
@@ -65,23 +56,23 @@ fn next(c: Columns, b: usize) -> Columns
     requires { ⌜ c .value < 10000000000 ⌝ }
     ensures { λ r. ⌜ (asColumns r ≡ byte (asColumns c) b) × (r .value < 10 * c .value + 10) ⌝ }
 {
-    if b == 32 {
+    if b == sheet_form::SPACE {
         if c.seen {
             return Columns::UNFIT;
         }
         return c;
     }
-    if b < 48 {
+    if b < sheet_form::FIRST_DIGIT {
         return Columns::UNFIT;
     }
-    if 57 < b {
+    if sheet_form::LAST_DIGIT < b {
         return Columns::UNFIT;
     }
     if !c.seen {
         return Columns {
             fit: c.fit,
             seen: true,
-            value: b - 48,
+            value: b - sheet_form::FIRST_DIGIT,
         };
     }
     if c.value == 0 {
@@ -90,53 +81,42 @@ fn next(c: Columns, b: usize) -> Columns
     Columns {
         fit: c.fit,
         seen: true,
-        value: 10 * c.value + (b - 48),
+        value: 10 * c.value + (b - sheet_form::FIRST_DIGIT),
     }
 }
 
 // The number in the ten columns at p; BEYOND if there is none in form.
 fn number_at(text: &[u8], p: usize) -> usize
-    requires { ⌜ p + 10 ≤ length (now text) ⌝ }
+    requires { ⌜ p + columnWidth ≤ length (now text) ⌝ }
     ensures { λ r. ⌜ r ≡ numberAt (now (text .entry)) p ⌝ }
 {
     let mut c = Columns::BLANK;
     let mut k = 0;
-    while k < 10 {
+    while k < sheet_form::COLUMN {
         c = next(c, byte_at(text, p + k));
         k += 1;
     }
     if !c.fit {
-        return BEYOND;
+        return sheet_form::BEYOND;
     }
     if !c.seen {
-        return BEYOND;
+        return sheet_form::BEYOND;
     }
-    if c.value < BEYOND { c.value } else { BEYOND }
+    if c.value < sheet_form::BEYOND {
+        c.value
+    } else {
+        sheet_form::BEYOND
+    }
 }
 
-// So many numbers in form from p on.
-fn numbers_ok(text: &[u8], p: usize, kept: usize) -> bool
-    requires { ⌜ p + 10 * kept ≤ length (now text) ⌝ }
-    ensures { λ r. ⌜ r ≡ numbersOk (now (text .entry)) p kept ⌝ }
+// So many numbers in form and below the bound from p on.
+fn numbers_below(text: &[u8], p: usize, bound: usize, n: usize) -> bool
+    requires { ⌜ p + columnWidth * n ≤ length (now text) ⌝ }
+    ensures { λ r. ⌜ r ≡ numbersBelow (now (text .entry)) bound p n ⌝ }
 {
     let mut i = 0;
-    while i < kept {
-        if BEYOND <= number_at(text, p + 10 * i) {
-            return false;
-        }
-        i += 1;
-    }
-    true
-}
-
-// So many zeros from p on.
-fn zeros_ok(text: &[u8], p: usize, zeros: usize) -> bool
-    requires { ⌜ p + 10 * zeros ≤ length (now text) ⌝ }
-    ensures { λ r. ⌜ r ≡ zerosOk (now (text .entry)) p zeros ⌝ }
-{
-    let mut i = 0;
-    while i < zeros {
-        if number_at(text, p + 10 * i) != 0 {
+    while i < n {
+        if bound <= number_at(text, p + sheet_form::COLUMN * i) {
             return false;
         }
         i += 1;
@@ -147,29 +127,29 @@ fn zeros_ok(text: &[u8], p: usize, zeros: usize) -> bool
 // ---- lines ----
 
 // A line at p: its numbers, its zeros, its newline.
-fn line_ok(text: &[u8], p: usize, kept: usize, zeros: usize) -> bool
-    requires { ⌜ p + lineWidth kept zeros ≤ length (now text) ⌝ }
-    ensures { λ r. ⌜ r ≡ lineOk (now (text .entry)) p kept zeros ⌝ }
+fn line_ok(text: &[u8], p: usize, form: LineForm) -> bool
+    requires { ⌜ (p + lineWidth (form .kept) (form .zeros) ≤ length (now text)) × Short form ⌝ }
+    ensures { λ r. ⌜ r ≡ lineOk (now (text .entry)) p (form .kept) (form .zeros) ⌝ }
 {
-    if !numbers_ok(text, p, kept) {
+    if !numbers_below(text, p, sheet_form::BEYOND, form.kept) {
         return false;
     }
-    if !zeros_ok(text, p + 10 * kept, zeros) {
+    if !numbers_below(text, p + sheet_form::COLUMN * form.kept, 1, form.zeros) {
         return false;
     }
-    byte_at(text, p + 10 * (kept + zeros)) == 10
+    byte_at(text, p + form.end()) == sheet_form::NEWLINE
 }
 
 // n such lines.
-fn lines_ok(text: &[u8], p: usize, kept: usize, zeros: usize, n: usize) -> bool
-    requires { ⌜ (p + lineWidth kept zeros * n ≤ length (now text)) × (kept + zeros ≤ 10) ⌝ }
-    ensures { λ r. ⌜ r ≡ linesOk (now (text .entry)) p kept zeros n ⌝ }
+fn lines_ok(text: &[u8], p: usize, form: LineForm, n: usize) -> bool
+    requires { ⌜ (p + lineWidth (form .kept) (form .zeros) * n ≤ length (now text)) × Short form ⌝ }
+    ensures { λ r. ⌜ r ≡ linesOk (now (text .entry)) p (form .kept) (form .zeros) n ⌝ }
 {
-    let width = 10 * (kept + zeros) + 1;
+    let width = form.width();
     let mut at = p;
     let mut i = 0;
     while i < n {
-        if !line_ok(text, at, kept, zeros) {
+        if !line_ok(text, at, form) {
             return false;
         }
         at += width;
@@ -180,31 +160,33 @@ fn lines_ok(text: &[u8], p: usize, kept: usize, zeros: usize, n: usize) -> bool
 
 // The numbers of a line go to the words from w on.
 fn read_numbers(text: &[u8], p: usize, kept: usize, out: &mut [u32], w: usize)
-    requires { ⌜ (p + 10 * kept ≤ length (now text)) × (w + kept ≤ length (now out)) ⌝ }
+    requires { ⌜ (p + columnWidth * kept ≤ length (now text)) × (w + kept ≤ length (now out)) ⌝ }
     requires { ⌜ T (numbersOk (now text) p kept) ⌝ }
     ensures { λ _. ⌜ now (out .exit) ≡ laidAt (now (out .entry)) w (numbersAt (now (text .entry)) p kept) ⌝ }
 {
     let mut i = 0;
     while i < kept {
-        words::set_word(out, w + i, number_at(text, p + 10 * i));
+        words::set_word(out, w + i, number_at(text, p + sheet_form::COLUMN * i));
         i += 1;
     }
 }
 
 // The numbers of n lines go to the first words.
-fn read_lines(text: &[u8], p: usize, kept: usize, zeros: usize, n: usize, out: &mut [u32])
-    requires { ⌜ (p + lineWidth kept zeros * n ≤ length (now text)) × (kept + zeros ≤ 10) × (kept * n ≤ length (now out)) ⌝ }
-    requires { ⌜ T (linesOk (now text) p kept zeros n) ⌝ }
-    ensures { λ _. ⌜ now (out .exit) ≡ laid (wordsAt (now (text .entry)) p kept zeros n) (now (out .entry)) ⌝ }
+fn read_lines(text: &[u8], p: usize, form: LineForm, n: usize, out: &mut [u32])
+    requires { ⌜ (p + lineWidth (form .kept) (form .zeros) * n ≤ length (now text)) × Short form × (form .kept * n ≤ length (now out)) ⌝ }
+    requires { ⌜ T (linesOk (now text) p (form .kept) (form .zeros) n) ⌝ }
+    ensures { λ _.
+        let shown = wordsAt (now (text .entry)) p (form .kept) (form .zeros) n in
+        ⌜ now (out .exit) ≡ laid shown (now (out .entry)) ⌝ }
 {
-    let width = 10 * (kept + zeros) + 1;
+    let width = form.width();
     let mut at = p;
     let mut w = 0;
     let mut i = 0;
     while i < n {
-        read_numbers(text, at, kept, out, w);
+        read_numbers(text, at, form.kept, out, w);
         at += width;
-        w += kept;
+        w += form.kept;
         i += 1;
     }
 }
@@ -213,45 +195,29 @@ fn read_lines(text: &[u8], p: usize, kept: usize, zeros: usize, n: usize, out: &
 
 // The counts of the first line.
 fn counts_of(text: &[u8]) -> Counts
-    requires { ⌜ 41 ≤ length (now text) ⌝ }
+    requires { ⌜ termsStart ≤ length (now text) ⌝ }
     ensures { λ r. ⌜ asCounts r ≡ countsAt (now (text .entry)) ⌝ }
 {
     Counts {
         terms: number_at(text, 0),
-        names: number_at(text, 10),
-        pattern: number_at(text, 20),
-        runs: number_at(text, 30),
+        names: number_at(text, sheet_form::SECOND),
+        pattern: number_at(text, sheet_form::THIRD),
+        runs: number_at(text, sheet_form::FOURTH),
     }
-}
-
-// "terms (to 512), name bytes (to 4,096), pattern records (to 256), runs (to 64)"
-fn within_limits(c: Counts) -> bool
-    ensures { λ r. ⌜ r ≡ limits (c .terms) (c .names) (c .pattern) (c .runs) ⌝ }
-{
-    if 512 < c.terms {
-        return false;
-    }
-    if 4096 < c.names {
-        return false;
-    }
-    if 256 < c.pattern {
-        return false;
-    }
-    c.runs <= 64
 }
 
 // The first line is in form, its counts are within the limits, and the text ends where they say.
 fn head_ok(text: &[u8], c: Counts) -> bool
-    requires { ⌜ 41 ≤ length (now text) ⌝ }
+    requires { ⌜ termsStart ≤ length (now text) ⌝ }
     ensures { λ r. ⌜ r ≡ headRule (now (text .entry)) (asCounts c) ⌝ }
 {
-    if !line_ok(text, 0, 4, 0) {
+    if !line_ok(text, 0, LineForm::COUNTS) {
         return false;
     }
-    if !within_limits(c) {
+    if !c.within_limits() {
         return false;
     }
-    text.len() == LINE + LINE * c.terms + c.names + 1 + LINE * c.pattern + LINE * c.runs
+    text.len() == c.end()
 }
 
 // The lines after it are in form, and the name bytes have their newline.
@@ -259,30 +225,30 @@ fn body_ok(text: &[u8], c: Counts) -> bool
     requires { ⌜ T (headRule (now text) (asCounts c)) ⌝ }
     ensures { λ r. ⌜ r ≡ bodyRule (now (text .entry)) (asCounts c) ⌝ }
 {
-    if !lines_ok(text, LINE, 4, 0, c.terms) {
+    if !lines_ok(text, sheet_form::LINE, LineForm::TERM, c.terms) {
         return false;
     }
-    let names_end = LINE + LINE * c.terms + c.names;
-    if byte_at(text, names_end) != 10 {
+    if byte_at(text, c.names_end()) != sheet_form::NEWLINE {
         return false;
     }
-    let pattern_at = names_end + 1;
-    if !lines_ok(text, pattern_at, 4, 0, c.pattern) {
+    if !lines_ok(text, c.pattern_start(), LineForm::ITEM, c.pattern) {
         return false;
     }
-    lines_ok(text, pattern_at + LINE * c.pattern, 2, 2, c.runs)
+    lines_ok(text, c.runs_start(), LineForm::RUN, c.runs)
 }
 
 // The lines of a sheet in form go to the first words of three slices.
 fn read_body(text: &[u8], c: Counts, terms: &mut [u32], pattern: &mut [u32], runs: &mut [u32])
-    requires { ⌜ T (headRule (now text) (asCounts c)) × T (bodyRule (now text) (asCounts c)) ⌝ }
-    requires { ⌜ (4 * c .terms ≤ length (now terms)) × (4 * c .pattern ≤ length (now pattern)) × (2 * c .runs ≤ length (now runs)) ⌝ }
-    ensures { λ _. ⌜ (now (terms .exit) ≡ laid (sheetAt (now (text .entry)) (asCounts c) .terms) (now (terms .entry))) × (now (pattern .exit) ≡ laid (sheetAt (now (text .entry)) (asCounts c) .pattern) (now (pattern .entry))) × (now (runs .exit) ≡ laid (sheetAt (now (text .entry)) (asCounts c) .runs) (now (runs .entry))) ⌝ }
+    requires { ⌜ InForm (now text) (asCounts c) ⌝ }
+    requires { ⌜ Holds (asCounts c) (now terms) (now pattern) (now runs) ⌝ }
+    ensures { λ _.
+        let sheet = sheetAt (now (text .entry)) (asCounts c) in
+        let words = filled sheet (now (terms .entry)) (now (pattern .entry)) (now (runs .entry)) in
+        ⌜ (now (terms .exit), now (pattern .exit), now (runs .exit)) ≡ words ⌝ }
 {
-    read_lines(text, LINE, 4, 0, c.terms, terms);
-    let pattern_at = LINE + LINE * c.terms + c.names + 1;
-    read_lines(text, pattern_at, 4, 0, c.pattern, pattern);
-    read_lines(text, pattern_at + LINE * c.pattern, 2, 2, c.runs, runs);
+    read_lines(text, sheet_form::LINE, LineForm::TERM, c.terms, terms);
+    read_lines(text, c.pattern_start(), LineForm::ITEM, c.pattern, pattern);
+    read_lines(text, c.runs_start(), LineForm::RUN, c.runs, runs);
 }
 
 // Reads a sheet: its terms, pattern records and runs go to the first words of three slices, its names stay in the text (`names_part`). 16 if
@@ -293,26 +259,30 @@ pub fn read_sheet(
     pattern: &mut [u32],
     runs: &mut [u32],
 ) -> SheetRead
-    ensures { λ r. ⌜ leavesSheet (readOf r) (now (terms .exit)) (now (pattern .exit)) (now (runs .exit)) ≡ readInto (readSheet (now (text .entry))) (countsAt (now (text .entry))) (now (terms .entry)) (now (pattern .entry)) (now (runs .entry)) ⌝ }
+    ensures { λ r.
+        let sheet = readSheet (now (text .entry)) in
+        let counts = countsAt (now (text .entry)) in
+        let after = leavesSheet (readOf r) (now (terms .exit)) (now (pattern .exit)) (now (runs .exit)) in
+        ⌜ after ≡ readInto sheet counts (now (terms .entry)) (now (pattern .entry)) (now (runs .entry)) ⌝ }
 {
-    if text.len() < LINE {
-        return SheetRead::Refused(16);
+    if text.len() < sheet_form::LINE {
+        return SheetRead::Refused(refusal::BAD_SHEET);
     }
     let c = counts_of(text);
     if !head_ok(text, c) {
-        return SheetRead::Refused(16);
+        return SheetRead::Refused(refusal::BAD_SHEET);
     }
     if !body_ok(text, c) {
-        return SheetRead::Refused(16);
+        return SheetRead::Refused(refusal::BAD_SHEET);
     }
-    if terms.len() < 4 * c.terms {
-        return SheetRead::Refused(14);
+    if terms.len() < sheet_form::TERM_COLUMNS * c.terms {
+        return SheetRead::Refused(refusal::WORK_SHORT);
     }
-    if pattern.len() < 4 * c.pattern {
-        return SheetRead::Refused(14);
+    if pattern.len() < sheet_form::ITEM_COLUMNS * c.pattern {
+        return SheetRead::Refused(refusal::WORK_SHORT);
     }
-    if runs.len() < 2 * c.runs {
-        return SheetRead::Refused(14);
+    if runs.len() < sheet_form::RUN_COLUMNS * c.runs {
+        return SheetRead::Refused(refusal::WORK_SHORT);
     }
     read_body(text, c, terms, pattern, runs);
     SheetRead::Counted(c)
@@ -322,11 +292,11 @@ pub fn read_sheet(
 pub fn names_part<'a>(text: &'a [u8], c: Counts) -> &'a [u8]
     ensures { λ r. ⌜ now r ≡ namesPart (now (text .entry)) (asCounts c) ⌝ }
 {
-    if !within_limits(c) {
+    if !c.within_limits() {
         return &text[0..0];
     }
-    let a = LINE + LINE * c.terms;
-    let e = a + c.names;
+    let a = c.names_start();
+    let e = c.names_end();
     if text.len() < e {
         return &text[0..0];
     }

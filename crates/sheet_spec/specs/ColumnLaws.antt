@@ -150,7 +150,8 @@ leading-scan text p zero v h e = let z : v ≡ 0 = omega arith in rw z refl
 leading-scan text p (suc k) v h e =
     let s = e ∙ leading-suc k v in
     let w = leading-length k (v / 10) in
-    ap₂ byte (leading-scan text p k (v / 10) (omega arith) (part-front text (leading k (v / 10)) p k (lastByte v) w s)) (part-last text (leading k (v / 10)) p k (lastByte v) w s)
+    ap₂ byte (leading-scan text p k (v / 10) (omega arith) (part-front text (leading k (v / 10)) p k (lastByte v) w s))
+    (part-last text (leading k (v / 10)) p k (lastByte v) w s)
     ∙ before-byte v
 
 -- Columns that are scanned as what v's leading columns show are v's leading columns.
@@ -168,7 +169,8 @@ pub column-scan : (text : List ℕ) (p v : ℕ) → v < 10 ^ 10 → take 10 (dro
 unfolding scan column
 column-scan text p v h e =
     let w = leading-length 9 (v / 10) in
-    ap₂ byte (leading-scan text p 9 (v / 10) (omega arith) (part-front text (leading 9 (v / 10)) p 9 (48 + v % 10) w e)) (part-last text (leading 9 (v / 10)) p 9 (48 + v % 10) w e)
+    ap₂ byte (leading-scan text p 9 (v / 10) (omega arith) (part-front text (leading 9 (v / 10)) p 9 (48 + v % 10) w e))
+    (part-last text (leading 9 (v / 10)) p 9 (48 + v % 10) w e)
     ∙ shown-byte (v / 10) (v % 10) (omega arith) ∙ ap shown (omega arith)
 
 -- Ten columns that are scanned as a number are those of the number.

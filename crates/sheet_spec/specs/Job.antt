@@ -4,13 +4,14 @@ use mathlib.Core.Option.{Option, some, none}
 use mathlib.Core.Bool.{true, false, _&&_}
 use lib.Dec.{leb}
 use lib.ListN.{length, take, drop, getD, replicate}
-use Prim.Native.Nat.{ℕ, suc, zero, _+_, _-_, _*_, _/_, _%_}
+use Prim.Native.Nat.{ℕ, suc, zero, _+_, _-_, _*_, _/_, _%_, _≤_}
 use Rattle.term_spec.specs.Words.{count}
 use Rattle.term_spec.specs.Term.{termLayout}
-use Rattle.view_spec.specs.Node.{Field}
+use Rattle.view_spec.specs.Node.{Field, nodeLayout}
 use Rattle.match_spec.specs.Answer.{allOfThem}
 use Rattle.calls_spec.specs.Store.{Store}
-use Rattle.calls_spec.specs.Step.{Request, callFromRuns, callMatch, Answer, refused, built, truth, inStore, inWork, listed, step, nameCount}
+use Rattle.calls_spec.specs.Step.{Request, callFromRuns, callMatch, Answer, answerNumber, Effect, quiet, making, effectOf, slotsFilled, slotNames, step}
+use Rattle.calls_spec.specs.Step.{nameCount}
 use Rattle.sheet_spec.specs.Sheet.{Sheet, line, sheetText, sheetRule, limits, Counts, namesStart, readSheet}
 
 -- ---- the whole job ----
@@ -19,19 +20,29 @@ use Rattle.sheet_spec.specs.Sheet.{Sheet, line, sheetText, sheetRule, li
 unfoldable pub padded : ℕ → List ℕ → List ℕ
 padded n w = w ++ replicate (n - length w) 0
 
--- "It lends 65 nodes, 1,024 terms": the sheet's terms are used, and node 0 is there.
+-- "It lends 65 nodes, 1,024 terms and 16 slots."
+abbrev pub nodesLent : ℕ
+nodesLent = 65
+
+abbrev pub termsLent : ℕ
+termsLent = 1024
+
+abbrev pub listingSlots : ℕ
+listingSlots = 16
+
+-- The stores of a sheet: the sheet's terms are used, and node 0 is there.
 unfoldable pub lentStore : Sheet → Store
 lentStore s = record {
   names = s .names;
-  termWords = padded (1024 * 4) (s .terms);
+  termWords = padded (termsLent * termLayout .width) (s .terms);
   termsUsed = count termLayout (s .terms);
-  nodeWords = replicate (65 * 6) 0;
+  nodeWords = replicate (nodesLent * nodeLayout .width) 0;
   nodesUsed = 1;
 }
 
--- "and 16 slots": a run start and a run length for each name of the pattern. With 7 or 9 there are none, and none is written.
+-- The slots of a listing: a run start and a run length for each name of the pattern. With 7 or 9 there are none, and none is written.
 unfoldable pub lentRequest : Sheet → Field → Request
-lentRequest s f = record { field = f; pattern = s .pattern; bindings = []; slots = replicate (16 * (2 * nameCount (s .names) (s .pattern) [])) 0 }
+lentRequest s f = record { field = f; pattern = s .pattern; bindings = []; slots = replicate (listingSlots * (2 * nameCount (s .names) (s .pattern) [])) 0 }
 
 -- "Refusals print one line, the number and three zeros"
 unfoldable pub refusalText : ℕ → List ℕ
@@ -42,24 +53,28 @@ unfoldable pub entryLines : ℕ → List ℕ → ℕ → ℕ → List ℕ
 entryLines k slots i zero = []
 entryLines k slots i (suc n) = line ((i / k + 1) ∷ (i % k + 1) ∷ getD slots (2 * i) 0 ∷ getD slots (2 * i + 1) 0 ∷ []) ++ entryLines k slots (suc i) n
 
--- What a listing prints: "answer, candidates, names, 0" and the candidates; "15 has 16, the names, 0, and its candidates". A listing has no
--- other answer than these two.
+-- What a listing prints: "answer, candidates, names, 0" and the candidates, none with a refusal; "15 has 16, the names, 0, and its
+-- candidates".
 unfoldable pub listingText : Answer → List ℕ → List ℕ
-listingText (refused n) slots = refusalText n
-listingText (listed n c k) slots = line (n ∷ c ∷ k ∷ 0 ∷ []) ++ entryLines k slots 0 (c * k)
-listingText (built f) slots = []
-listingText (truth b) slots = []
-listingText (inStore r) slots = []
-listingText (inWork n) slots = []
+listingText a slots =
+    line (answerNumber a ∷ slotsFilled a ∷ slotNames a ∷ 0 ∷ []) ++ entryLines (slotNames a) slots 0 (slotsFilled a * slotNames a)
 
--- The listing on what `from_runs` left, or its refusal. `from_runs` has no other answer than these two.
+-- The candidates of an answer: at most 16, of at most 64 entries, in so many words.
+pub record Fits (a : Answer) (words : ℕ) : Type 0 where
+  pub few : slotsFilled a ≤ 16
+  pub short : slotNames a ≤ 64
+  pub inside : 2 * (slotsFilled a * slotNames a) ≤ words
+
+-- The listing on the field that `from_runs` made, or its refusal: it has no other answer.
+unfoldable pub matchOn : Sheet → Effect → ℕ → Store → List ℕ
+matchOn s quiet n store = refusalText n
+matchOn s (making f) n store =
+    let after = step store (callMatch allOfThem (lentRequest s f)) in
+    listingText (after .answer) (after .slots)
+
+-- The same, of its answer.
 unfoldable pub matchText : Sheet → Answer → Store → List ℕ
-matchText s (refused n) store = refusalText n
-matchText s (built f) store = listingText ((step store (callMatch allOfThem (lentRequest s f))) .answer) ((step store (callMatch allOfThem (lentRequest s f))) .slots)
-matchText s (listed n c k) store = []
-matchText s (truth b) store = []
-matchText s (inStore r) store = []
-matchText s (inWork n) store = []
+matchText s a store = matchOn s (effectOf a) (answerNumber a) store
 
 -- What is printed for a sheet, and 16 where there is none.
 unfoldable pub jobText : Option Sheet → List ℕ

@@ -40,7 +40,8 @@ laidAt-next old p q a b e h =
     let l : length f ≡ q = length-append (take p old) a ∙ omega (arith, length-take-le p old (omega arith)) in
     let m : q + length b ≡ length f + length b = omega arith in
     let k : p + length a + length b ≡ p + length (a ++ b) = omega (arith, length-append a b) in
-    ap₂ (λ x y. x ++ b ++ y) (take-at f d q l) (ap (λ n. drop n (f ++ d)) m ∙ drop-append-add f d (length b) ∙ drop-drop (length b) (p + length a) old ∙ ap (λ n. drop n old) k)
+    ap₂ (λ x y. x ++ b ++ y) (take-at f d q l) (ap (λ n. drop n (f ++ d)) m ∙ drop-append-add f d (length b) ∙ drop-drop (length b) (p + length a) old
+    ∙ ap (λ n. drop n old) k)
     ∙ ap (_++ drop (p + length (a ++ b)) old) (append-assoc (take p old) a b)
 
 -- A part, and one before it.
@@ -59,12 +60,14 @@ laidAt-before old p q a b e h =
 
 -- A part, and one element after it.
 pub laidAt-snoc : (old : List ℕ) (p q : ℕ) (a : List ℕ) (x : ℕ) → q ≡ p + length a → q < length old → set (laidAt old p a) q x ≡ laidAt old p (a ++ x ∷ [])
-laidAt-snoc old p q a x e h = laidAt-set (laidAt old p a) q x (omega (arith, laidAt-length old p a (omega arith))) ∙ laidAt-next old p q a (x ∷ []) e (omega arith)
+laidAt-snoc old p q a x e h = laidAt-set (laidAt old p a) q x (omega (arith, laidAt-length old p a (omega arith)))
+    ∙ laidAt-next old p q a (x ∷ []) e (omega arith)
 
 -- The length stays where the first part fits.
 pub laid-length : (new old : List ℕ) → length new ≤ length old → length (laid new old) ≡ length old
 laid-length new old h = ap length (sym (laidAt-start old new)) ∙ laidAt-length old 0 new (omega arith)
 
 -- Two parts laid one after the other, as a caller of two functions knows them.
-pub laidAt-then : (old mid new : List ℕ) (p q : ℕ) (a b : List ℕ) → q ≡ p + length a → q ≤ length old → mid ≡ laidAt old p a → new ≡ laidAt mid q b → new ≡ laidAt old p (a ++ b)
+pub laidAt-then : (old mid new : List ℕ) (p q : ℕ) (a b : List ℕ) → q ≡ p + length a → q ≤ length old → mid ≡ laidAt old p a → new ≡ laidAt mid q b
+    → new ≡ laidAt old p (a ++ b)
 laidAt-then old mid new p q a b e h f g = g ∙ ap (λ x. laidAt x q b) f ∙ laidAt-next old p q a b e h

@@ -10,7 +10,8 @@ use native.Mathlib.Omega.{arith}
 use Rattle.term_spec.specs.BoolLaws.{both-of, and-of, eq→eqb}
 use Rattle.term_spec.specs.ListLaws.{drop-take}
 use Rattle.sheet_spec.specs.ColumnLaws.{column-length, column-read, read-column}
-use Rattle.sheet_spec.specs.Sheet.{column, columns, line, lines, beyond, wordsBelow, numberAt, numbersOk, zerosOk, lineWidth, lineOk, linesOk, numbersAt, wordsAt}
+use Rattle.sheet_spec.specs.Sheet.{column, columns, line, lines, beyond, wordsBelow, numberAt, numbersOk, zerosOk, lineWidth, lineOk, linesOk}
+use Rattle.sheet_spec.specs.Sheet.{numbersAt, wordsAt}
 
 -- ---- lengths ----
 
@@ -28,7 +29,13 @@ line-length l = rw length-append (omega (arith, columns-length l))
 -- The line of a record's kept words and its zeros.
 record-length : (kept zeros : ℕ) (w : List ℕ) → kept ≤ length w → length (line (take kept w ++ replicate zeros 0)) ≡ lineWidth kept zeros
 record-length kept zeros w h =
-    line-length (take kept w ++ replicate zeros 0) ∙ omega (arith, length-append (take kept w) (replicate zeros 0), length-take-le kept w h, length-replicate {A = ℕ} zeros 0)
+    line-length (take kept w ++ replicate zeros 0) ∙ omega (
+      arith,
+      length-append (take kept w)
+          (replicate zeros 0),
+      length-take-le kept w h,
+      length-replicate {A = ℕ} zeros 0,
+    )
 
 -- So many lines of records that lie in the words.
 pub lines-length : (kept zeros n : ℕ) (w : List ℕ) → n * kept ≤ length w → length (lines kept zeros n w) ≡ lineWidth kept zeros * n
@@ -64,7 +71,8 @@ parts-left text X Y p a b h e = sym (take-take a (a + b) (drop p text) (omega ar
 pub parts-right : (text X Y : List ℕ) (p a b : ℕ) → length X ≡ a → take (a + b) (drop p text) ≡ X ++ Y → take b (drop (p + a) text) ≡ Y
 parts-right text X Y p a b h e =
     let z : a + b - a ≡ b = omega arith in
-    ap (take b) (sym (drop-drop a p text)) ∙ ap (λ n. take n (drop a (drop p text))) (sym z) ∙ sym (drop-take a (a + b) (drop p text)) ∙ ap (drop a) e ∙ drop-at X Y a h
+    ap (take b) (sym (drop-drop a p text)) ∙ ap (λ n. take n (drop a (drop p text))) (sym z) ∙ sym (drop-take a (a + b) (drop p text)) ∙ ap (drop a) e
+    ∙ drop-at X Y a h
 
 -- A part of one byte is that byte.
 pub part-byte : (text : List ℕ) (p x : ℕ) → take 1 (drop p text) ≡ x ∷ [] → getD text p 0 ≡ x
@@ -81,7 +89,8 @@ byte-part text p h =
 -- ---- numbers side by side ----
 
 -- Numbers that were written are in form and read back.
-pub numbers-read : (text l : List ℕ) (p k : ℕ) → length l ≡ k → T (wordsBelow l) → take (10 * k) (drop p text) ≡ columns l → (numbersAt text p k ≡ l) × T (numbersOk text p k)
+pub numbers-read : (text l : List ℕ) (p k : ℕ) → length l ≡ k → T (wordsBelow l) → take (10 * k) (drop p text) ≡ columns l
+    → (numbersAt text p k ≡ l) × T (numbersOk text p k)
 unfolding columns wordsBelow numbersAt numbersOk
 numbers-read text [] p zero h b e = (refl, tt)
 numbers-read text [] p (suc k) h b e = absurd (omega arith)
@@ -102,7 +111,8 @@ read-numbers text p (suc k) h o =
     let (x, y) = both-of (ltb (numberAt text p) beyond) (numbersOk text (p + 10) k) o in
     let z : 10 * suc k ≡ 10 + 10 * k = omega arith in
     ap (λ n. take n (drop p text)) z
-    ∙ parts-join text (column (numberAt text p)) (columns (numbersAt text (p + 10) k)) p 10 (10 * k) (read-column text p (ltb→lt _ _ x) (omega arith)) (read-numbers text (p + 10) k (omega arith) y)
+    ∙ parts-join text (column (numberAt text p)) (columns (numbersAt text (p + 10) k)) p 10 (10 * k) (read-column text p (ltb→lt _ _ x) (omega arith))
+    (read-numbers text (p + 10) k (omega arith) y)
 
 -- Numbers in form are below the limit.
 pub numbers-below : (text : List ℕ) (p k : ℕ) → T (numbersOk text p k) → T (wordsBelow (numbersAt text p k))
@@ -173,7 +183,8 @@ below-at (v ∷ l) (suc i) h = below-at l i (both-of (ltb v beyond) (wordsBelow 
 -- ---- one line ----
 
 -- A line that was written is in form, and its numbers read back.
-pub line-read : (text l : List ℕ) (p kept zeros : ℕ) → length l ≡ kept → T (wordsBelow l) → take (lineWidth kept zeros) (drop p text) ≡ line (l ++ replicate zeros 0)
+pub line-read : (text l : List ℕ) (p kept zeros : ℕ) → length l ≡ kept → T (wordsBelow l)
+    → take (lineWidth kept zeros) (drop p text) ≡ line (l ++ replicate zeros 0)
     → (numbersAt text p kept ≡ l) × T (lineOk text p kept zeros)
 unfolding line lineOk
 line-read text l p kept zeros h b e =
@@ -185,7 +196,8 @@ line-read text l p kept zeros h b e =
     let s : take (10 * kept + 10 * zeros) (drop p text) ≡ columns l ++ columns o = ap (λ n. take n (drop p text)) (sym z) ∙ all ∙ columns-append l o in
     let k : length (columns l) ≡ 10 * kept = columns-length l ∙ ap (10 *_) h in
     let (m, x) = numbers-read text l p kept h b (parts-left text (columns l) (columns o) p (10 * kept) (10 * zeros) k s) in
-    let (q, y) = numbers-read text o (p + 10 * kept) zeros (length-replicate zeros 0) (zeros-below zeros) (parts-right text (columns l) (columns o) p (10 * kept) (10 * zeros) k s) in (
+    let (q, y) = numbers-read text o (p + 10 * kept) zeros (length-replicate zeros 0) (zeros-below zeros)
+    (parts-right text (columns l) (columns o) p (10 * kept) (10 * zeros) k s) in (
       m,
       and-of (numbersOk text p kept && zerosOk text (p + 10 * kept) zeros) (eqb (getD text (p + 10 * (kept + zeros)) 0) 10)
           (and-of (numbersOk text p kept) (zerosOk text (p + 10 * kept) zeros) x (numbers-zeros text (p + 10 * kept) zeros q)) (eq→eqb _ _ end),
@@ -234,8 +246,10 @@ lines-read text p kept zeros (suc n) w h b e =
     let z : W * suc n ≡ W + W * n = omega arith in
     let s : take (W + W * n) (drop p text) ≡ one ++ rest = ap (λ m. take m (drop p text)) (sym z) ∙ e in
     let k : length one ≡ W = record-length kept zeros w (omega arith) in
-    let (m, x) = line-read text (take kept w) p kept zeros (length-take-le kept w (omega arith)) (below-take kept w b) (parts-left text one rest p W (W * n) k s) in
-    let (q, y) = lines-read text (p + W) kept zeros n (drop kept w) (omega (arith, length-drop kept w)) (below-drop kept w b) (parts-right text one rest p W (W * n) k s) in
+    let (m, x) = line-read text (take kept w) p kept zeros (length-take-le kept w (omega arith)) (below-take kept w b)
+    (parts-left text one rest p W (W * n) k s) in
+    let (q, y) = lines-read text (p + W) kept zeros n (drop kept w) (omega (arith, length-drop kept w)) (below-drop kept w b)
+    (parts-right text one rest p W (W * n) k s) in
     let v : suc n * kept ≡ kept + n * kept = omega arith in
     (ap₂ _++_ m q ∙ sym (take-add kept (n * kept) w) ∙ ap (λ i. take i w) (sym v), and-of (lineOk text p kept zeros) (linesOk text (p + W) kept zeros n) x y)
 

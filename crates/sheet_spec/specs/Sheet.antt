@@ -8,7 +8,65 @@ use Prim.Native.Nat.{ℕ, suc, zero, _+_, _-_, _*_, _/_, _%_, min}
 use Rattle.term_spec.specs.Text.{isDigit}
 use Rattle.term_spec.specs.Words.{count, whole}
 use Rattle.term_spec.specs.Term.{termLayout, runLayout}
-use Rattle.match_spec.specs.Pattern.{itemLayout}
+use Rattle.match_spec.specs.Pattern.{itemLayout, patternLimit}
+use Rattle.calls_spec.specs.Step.{runListLimit}
+
+-- ---- the lines, and where they stand in the text ----
+
+-- "each right-justified in ten columns"
+abbrev pub columnWidth : ℕ
+columnWidth = 10
+
+-- The numbers of the first line: its counts.
+abbrev pub countColumns : ℕ
+countColumns = 4
+
+-- The numbers of a term line.
+abbrev pub termColumns : ℕ
+termColumns = termLayout .width
+
+-- The numbers of a pattern line.
+abbrev pub itemColumns : ℕ
+itemColumns = itemLayout .width
+
+-- The numbers of a run line, ..
+abbrev pub runColumns : ℕ
+runColumns = runLayout .width
+
+-- .. and the zeros after them.
+abbrev pub runZeros : ℕ
+runZeros = 2
+
+-- The bytes of a line: its columns and its newline.
+abbrev pub lineWidth : ℕ → ℕ → ℕ
+lineWidth kept zeros = columnWidth * (kept + zeros) + 1
+
+-- The counts that the first line shows.
+pub record Counts : Type 0 where
+  pub terms : ℕ
+  pub names : ℕ
+  pub pattern : ℕ
+  pub runs : ℕ
+
+-- Where the term lines start.
+abbrev pub termsStart : ℕ
+termsStart = lineWidth countColumns 0
+
+-- Where the name bytes start.
+abbrev pub namesStart : Counts → ℕ
+namesStart c = termsStart + lineWidth termColumns 0 * c .terms
+
+-- Where the pattern lines start.
+abbrev pub patternStart : Counts → ℕ
+patternStart c = namesStart c + c .names + 1
+
+-- Where the run lines start.
+abbrev pub runsStart : Counts → ℕ
+runsStart c = patternStart c + lineWidth itemColumns 0 * c .pattern
+
+-- The bytes of the whole.
+abbrev pub sheetEnd : Counts → ℕ
+sheetEnd c = runsStart c + lineWidth runColumns runZeros * c .runs
 
 -- ---- writing ----
 
@@ -42,25 +100,17 @@ pub record Sheet : Type 0 where
   pub pattern : List ℕ
   pub runs : List ℕ
 
--- The numbers of a term line (02: 2.7), of a pattern line and of a counts line; a run line has a start, a length and two zeros.
-abbrev pub termColumns : ℕ
-termColumns = 4
+-- "terms (to 512), name bytes (to 4,096)"; pattern records and runs have the limits of a call.
+abbrev pub sheetTerms : ℕ
+sheetTerms = 512
 
--- The numbers of a pattern line.
-abbrev pub itemColumns : ℕ
-itemColumns = 4
-
--- The numbers of a run line, and the zeros after them.
-abbrev pub runColumns : ℕ
-runColumns = 2
-
--- The zeros of a run line.
-abbrev pub runZeros : ℕ
-runZeros = 2
+-- The most name bytes.
+abbrev pub sheetNames : ℕ
+sheetNames = 4096
 
 -- "First line: terms (to 512), name bytes (to 4,096), pattern records (to 256), runs (to 64)."
 unfoldable pub limits : ℕ → ℕ → ℕ → ℕ → Bool
-limits t n p r = leb t 512 && leb n 4096 && leb p 256 && leb r 64
+limits t n p r = leb t sheetTerms && leb n sheetNames && leb p patternLimit && leb r runListLimit
 
 -- The sheet's text: "Then the term lines, the name bytes and a newline, the pattern lines, and the run lines (start, length, 0, 0)."
 unfoldable pub sheetText : Sheet → List ℕ
@@ -123,25 +173,21 @@ shownNumber unfit = beyond
 
 -- The number in the ten columns at p; `beyond` if there is none in form.
 unfoldable pub numberAt : List ℕ → ℕ → ℕ
-numberAt text p = shownNumber (scan text p 10)
+numberAt text p = shownNumber (scan text p columnWidth)
 
 -- So many numbers in form from p on.
 unfoldable pub numbersOk : List ℕ → ℕ → ℕ → Bool
 numbersOk text p zero = true
-numbersOk text p (suc k) = ltb (numberAt text p) beyond && numbersOk text (p + 10) k
+numbersOk text p (suc k) = ltb (numberAt text p) beyond && numbersOk text (p + columnWidth) k
 
 -- So many zeros from p on.
 unfoldable pub zerosOk : List ℕ → ℕ → ℕ → Bool
 zerosOk text p zero = true
-zerosOk text p (suc k) = eqb (numberAt text p) 0 && zerosOk text (p + 10) k
-
--- The bytes of a line.
-abbrev pub lineWidth : ℕ → ℕ → ℕ
-lineWidth kept zeros = 10 * (kept + zeros) + 1
+zerosOk text p (suc k) = eqb (numberAt text p) 0 && zerosOk text (p + columnWidth) k
 
 -- A line at p: its numbers, its zeros, its newline.
 unfoldable pub lineOk : List ℕ → ℕ → ℕ → ℕ → Bool
-lineOk text p kept zeros = numbersOk text p kept && zerosOk text (p + 10 * kept) zeros && eqb (getD text (p + 10 * (kept + zeros)) 0) 10
+lineOk text p kept zeros = numbersOk text p kept && zerosOk text (p + columnWidth * kept) zeros && eqb (getD text (p + columnWidth * (kept + zeros)) 0) 10
 
 -- n such lines.
 unfoldable pub linesOk : List ℕ → ℕ → ℕ → ℕ → ℕ → Bool
@@ -151,48 +197,26 @@ linesOk text p kept zeros (suc n) = lineOk text p kept zeros && linesOk text (p 
 -- So many numbers from p on.
 unfoldable pub numbersAt : List ℕ → ℕ → ℕ → List ℕ
 numbersAt text p zero = []
-numbersAt text p (suc k) = numberAt text p ∷ numbersAt text (p + 10) k
+numbersAt text p (suc k) = numberAt text p ∷ numbersAt text (p + columnWidth) k
 
 -- The words that n lines show.
 unfoldable pub wordsAt : List ℕ → ℕ → ℕ → ℕ → ℕ → List ℕ
 wordsAt text p kept zeros zero = []
 wordsAt text p kept zeros (suc n) = numbersAt text p kept ++ wordsAt text (p + lineWidth kept zeros) kept zeros n
 
--- The counts that the first line shows.
-pub record Counts : Type 0 where
-  pub terms : ℕ
-  pub names : ℕ
-  pub pattern : ℕ
-  pub runs : ℕ
-
 -- The counts of a text's first line.
 unfoldable pub countsAt : List ℕ → Counts
-countsAt text = record { terms = numberAt text 0; names = numberAt text 10; pattern = numberAt text 20; runs = numberAt text 30 }
-
--- Where the parts after the first line start: terms, names, pattern, runs, and the end.
-abbrev pub termsStart : ℕ
-termsStart = lineWidth 4 0
-
--- Where the name bytes start.
-abbrev pub namesStart : Counts → ℕ
-namesStart c = termsStart + lineWidth termColumns 0 * c .terms
-
--- Where the pattern lines start.
-abbrev pub patternStart : Counts → ℕ
-patternStart c = namesStart c + c .names + 1
-
--- Where the run lines start.
-abbrev pub runsStart : Counts → ℕ
-runsStart c = patternStart c + lineWidth itemColumns 0 * c .pattern
-
--- The bytes of the whole.
-abbrev pub sheetEnd : Counts → ℕ
-sheetEnd c = runsStart c + lineWidth runColumns runZeros * c .runs
+countsAt text = record {
+  terms = numberAt text 0;
+  names = numberAt text columnWidth;
+  pattern = numberAt text (2 * columnWidth);
+  runs = numberAt text (3 * columnWidth);
+}
 
 -- The first line is in form, its counts are within the limits, and the text ends where they say.
 unfoldable pub headRule : List ℕ → Counts → Bool
 headRule text c =
-    leb (lineWidth 4 0) (length text) && lineOk text 0 4 0 && limits (c .terms) (c .names) (c .pattern) (c .runs) && eqb (length text) (sheetEnd c)
+    leb termsStart (length text) && lineOk text 0 countColumns 0 && limits (c .terms) (c .names) (c .pattern) (c .runs) && eqb (length text) (sheetEnd c)
 
 -- The lines after it are in form, and the name bytes have their newline.
 unfoldable pub bodyRule : List ℕ → Counts → Bool

@@ -7,7 +7,9 @@ use lib.ListN.{replicate}
 use Prim.Native.Nat.{ℕ}
 use Rattle.term_spec.specs.Text.{isDigit}
 use Rattle.term_spec.specs.Words.{count, whole}
-use Rattle.sheet_spec.specs.Sheet.{leading, column, columns, line, lines, Sheet, limits, sheetText, sheetRule, digit, space, byte, scan, shownNumber, numberAt, numbersOk, zerosOk, lineOk, linesOk, numbersAt, wordsAt, countsAt, headRule, bodyRule, sheetAt, readSheet}
+use Rattle.sheet_spec.specs.Sheet.{leading, column, columns, line, lines, Sheet, limits, sheetText, sheetRule, digit, space, byte, scan, shownNumber}
+use Rattle.sheet_spec.specs.Sheet.{numberAt, numbersOk, zerosOk, lineOk, linesOk, numbersAt, wordsAt, countsAt, headRule, bodyRule, sheetAt}
+use Rattle.sheet_spec.specs.Sheet.{readSheet}
 
 -- ---- 01's example ----
 
@@ -60,7 +62,8 @@ example-text = refl
 
 -- And is read back.
 pub example-read : readSheet exampleText ≡ some example
-unfolding isDigit limits digit space byte scan shownNumber numberAt numbersOk zerosOk lineOk linesOk numbersAt wordsAt countsAt headRule bodyRule sheetAt readSheet
+unfolding isDigit limits digit space byte scan shownNumber numberAt numbersOk zerosOk lineOk linesOk numbersAt wordsAt countsAt headRule bodyRule sheetAt
+    readSheet
 example-read = refl
 
 -- Whole records and counts within the limits; half a run.
@@ -101,23 +104,28 @@ termSheet v = record { terms = v ∷ 0 ∷ 0 ∷ 0 ∷ []; names = []; pattern =
 -- Each text below, but the last, differs from one of these in one place.
 pub in-form : map readSheet (oneTerm (two 52 53) twoEnds ∷ oneTerm largest twoEnds ∷ oneRun (one 48) ∷ [])
     ≡ some (termSheet 45) ∷ some (termSheet 4294967295) ∷ some (record { terms = []; names = []; pattern = []; runs = 0 ∷ 0 ∷ [] }) ∷ []
-unfolding isDigit limits digit space byte scan shownNumber numberAt numbersOk zerosOk lineOk linesOk numbersAt wordsAt countsAt headRule bodyRule sheetAt readSheet
+unfolding isDigit limits digit space byte scan shownNumber numberAt numbersOk zerosOk lineOk linesOk numbersAt wordsAt countsAt headRule bodyRule sheetAt
+    readSheet
 in-form = refl
 
 -- No text; a byte after the sheet; a byte too few.
 pub wrong-length : map readSheet ([] ∷ oneTerm (two 52 53) (twoEnds ++ newline) ∷ oneTerm (two 52 53) newline ∷ []) ≡ none ∷ none ∷ none ∷ []
-unfolding isDigit limits digit space byte scan shownNumber numberAt numbersOk zerosOk lineOk linesOk numbersAt wordsAt countsAt headRule bodyRule sheetAt readSheet
+unfolding isDigit limits digit space byte scan shownNumber numberAt numbersOk zerosOk lineOk linesOk numbersAt wordsAt countsAt headRule bodyRule sheetAt
+    readSheet
 wrong-length = refl
 
 -- Leading zeros; a number too large; a space after the digit; no digit; another byte.
-pub wrong-number : map readSheet (oneTerm (two 48 53) twoEnds ∷ oneTerm (two 48 48) twoEnds ∷ oneTerm tooLarge twoEnds ∷ oneTerm shifted twoEnds ∷ oneTerm (one 32) twoEnds ∷ oneTerm (one 97) twoEnds ∷ [])
+pub wrong-number : map readSheet (oneTerm (two 48 53) twoEnds ∷ oneTerm (two 48 48) twoEnds ∷ oneTerm tooLarge twoEnds ∷ oneTerm shifted twoEnds ∷ oneTerm
+    (one 32) twoEnds ∷ oneTerm (one 97) twoEnds ∷ [])
     ≡ none ∷ none ∷ none ∷ none ∷ none ∷ none ∷ []
-unfolding isDigit limits digit space byte scan shownNumber numberAt numbersOk zerosOk lineOk linesOk numbersAt wordsAt countsAt headRule bodyRule sheetAt readSheet
+unfolding isDigit limits digit space byte scan shownNumber numberAt numbersOk zerosOk lineOk linesOk numbersAt wordsAt countsAt headRule bodyRule sheetAt
+    readSheet
 wrong-number = refl
 
 -- Another byte for the newline of a line; for that after the names; a run line whose third number is 1.
 pub wrong-line : map readSheet (oneTerm (two 52 53) (32 ∷ 10 ∷ []) ∷ oneTerm (two 52 53) (10 ∷ 32 ∷ []) ∷ oneRun (one 49) ∷ []) ≡ none ∷ none ∷ none ∷ []
-unfolding isDigit limits digit space byte scan shownNumber numberAt numbersOk zerosOk lineOk linesOk numbersAt wordsAt countsAt headRule bodyRule sheetAt readSheet
+unfolding isDigit limits digit space byte scan shownNumber numberAt numbersOk zerosOk lineOk linesOk numbersAt wordsAt countsAt headRule bodyRule sheetAt
+    readSheet
 wrong-line = refl
 
 -- 513 terms: the first line is enough to refuse them.

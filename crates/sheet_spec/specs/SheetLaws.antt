@@ -13,14 +13,23 @@ use Rattle.term_spec.specs.ListLaws.{part-length}
 use Rattle.term_spec.specs.Words.{count, whole}
 use Rattle.term_spec.specs.Term.{termLayout, runLayout}
 use Rattle.match_spec.specs.Pattern.{itemLayout}
-use Rattle.sheet_spec.specs.LineLaws.{line-length, lines-length, words-length, parts-join, parts-left, parts-right, part-byte, byte-part, line-read, read-line, lines-read, read-lines, words-below}
-use Rattle.sheet_spec.specs.Sheet.{line, lines, Sheet, limits, sheetText, sheetRule, beyond, wordsBelow, lineWidth, numberAt, lineOk, linesOk, numbersAt, wordsAt, Counts, countsAt, termsStart, namesStart, patternStart, runsStart, sheetEnd, headRule, bodyRule, sheetAt, readSheet}
+use Rattle.sheet_spec.specs.LineLaws.{line-length, lines-length, words-length, parts-join, parts-left, parts-right, part-byte, byte-part, line-read}
+use Rattle.sheet_spec.specs.LineLaws.{read-line, lines-read, read-lines, words-below}
+use Rattle.sheet_spec.specs.Sheet.{line, lines, Sheet, limits, sheetText, sheetRule, beyond, wordsBelow, lineWidth, numberAt, lineOk, linesOk}
+use Rattle.sheet_spec.specs.Sheet.{numbersAt, wordsAt, Counts, countsAt, termsStart, namesStart, patternStart, runsStart, sheetEnd, headRule}
+use Rattle.sheet_spec.specs.Sheet.{bodyRule, sheetAt, readSheet}
 
 -- ---- rules as facts ----
 
 -- The counts of a sheet.
 unfoldable pub countsOf : Sheet → Counts
-countsOf s = record { terms = count termLayout (s .terms); names = length (s .names); pattern = count itemLayout (s .pattern); runs = count runLayout (s .runs) }
+countsOf s = record {
+  terms = count termLayout (s .terms);
+  names = length (s .names);
+  pattern = count itemLayout (s .pattern);
+  runs = count runLayout
+      (s .runs);
+}
 
 -- Counts within the limits.
 pub record Limited (t n p r : ℕ) : Type 0 where
@@ -43,7 +52,8 @@ pub facts-limits : (t n p r : ℕ) → Limited t n p r → T (limits t n p r)
 unfolding limits
 facts-limits t n p r h =
     and-of (leb t 512 && leb n 4096 && leb p 256) (leb r 64)
-    (and-of (leb t 512 && leb n 4096) (leb p 256) (and-of (leb t 512) (leb n 4096) (le→leb t 512 (h .terms)) (le→leb n 4096 (h .names))) (le→leb p 256 (h .pattern)))
+    (and-of (leb t 512 && leb n 4096) (leb p 256) (and-of (leb t 512) (leb n 4096) (le→leb t 512 (h .terms)) (le→leb n 4096 (h .names)))
+    (le→leb p 256 (h .pattern)))
     (le→leb r 64 (h .runs))
 
 -- What makes a sheet writable: whole records, counts within the limits.
@@ -95,7 +105,8 @@ parts-of : (t A B N P R : List ℕ) (b n p r : ℕ) → length A ≡ 41 → leng
     → t ≡ A ++ (B ++ (N ++ ((10 ∷ []) ++ (P ++ R)))) → Parts t A B N P R b n p r
 parts-of t A B N P R b n p r ha hb hn hp hr e =
     let z : length t ≡ 41 + b + n + 1 + p + r = ap length e ∙ parts-length A B N P R b n p r ha hb hn hp hr in
-    let e0 : take (41 + (b + (n + (1 + (p + r))))) (drop 0 t) ≡ A ++ (B ++ (N ++ ((10 ∷ []) ++ (P ++ R)))) = take-all (41 + (b + (n + (1 + (p + r))))) t (omega arith) ∙ e in
+    let e0 : take (41 + (b + (n + (1 + (p + r))))) (drop 0 t) ≡ A ++ (B ++ (N ++ ((10 ∷ []) ++ (P ++ R)))) = take-all (41 + (b + (n + (1 + (p + r))))) t
+    (omega arith) ∙ e in
     let e1 = parts-right t A (B ++ (N ++ ((10 ∷ []) ++ (P ++ R)))) 0 41 (b + (n + (1 + (p + r)))) ha e0 in
     let e2 = parts-right t B (N ++ ((10 ∷ []) ++ (P ++ R))) 41 b (n + (1 + (p + r))) hb e1 in
     let e3 = parts-right t N ((10 ∷ []) ++ (P ++ R)) (41 + b) n (1 + (p + r)) hn e2 in
@@ -186,8 +197,10 @@ all-read text p kept zeros n w h b e =
 
 below-head : (c : Counts) → Limited (c .terms) (c .names) (c .pattern) (c .runs) → T (wordsBelow (headNumbers c))
 unfolding wordsBelow
-below-head c l = and-of (ltb (c .terms) beyond) _ (lt→ltb (c .terms) beyond (omega arith)) (and-of (ltb (c .names) beyond) _ (lt→ltb (c .names) beyond (omega arith))
-    (and-of (ltb (c .pattern) beyond) _ (lt→ltb (c .pattern) beyond (omega arith)) (and-of (ltb (c .runs) beyond) true (lt→ltb (c .runs) beyond (omega arith)) tt)))
+below-head c l = and-of (ltb (c .terms) beyond) _ (lt→ltb (c .terms) beyond (omega arith))
+    (and-of (ltb (c .names) beyond) _ (lt→ltb (c .names) beyond (omega arith))
+    (and-of (ltb (c .pattern) beyond) _ (lt→ltb (c .pattern) beyond (omega arith))
+    (and-of (ltb (c .runs) beyond) true (lt→ltb (c .runs) beyond (omega arith)) tt)))
 
 -- The counts in the first line, where it was written.
 counts-read : (text : List ℕ) (c : Counts) → numbersAt text 0 4 ≡ headNumbers c → countsAt text ≡ c
@@ -245,7 +258,8 @@ unfolding headRule
 facts-head text c f =
     let lim = limits (c .terms) (c .names) (c .pattern) (c .runs) in
     and-of (leb 41 (length text) && lineOk text 0 4 0 && lim) (eqb (length text) (sheetEnd c))
-    (and-of (leb 41 (length text) && lineOk text 0 4 0) lim (and-of (leb 41 (length text)) (lineOk text 0 4 0) (le→leb 41 (length text) (omega (arith, f .size))) (f .line)) (facts-limits _ _ _ _ (f .limited)))
+    (and-of (leb 41 (length text) && lineOk text 0 4 0) lim (and-of (leb 41 (length text)) (lineOk text 0 4 0)
+    (le→leb 41 (length text) (omega (arith, f .size))) (f .line)) (facts-limits _ _ _ _ (f .limited)))
     (eq→eqb _ _ (f .size))
 
 -- The tests of what follows the first line as facts.
@@ -278,13 +292,15 @@ facts-body text c f =
     let r = linesOk text (runsStart c) 2 2 (c .runs) in
     and-of (a && b && d) r (and-of (a && b) d (and-of a b (f .terms) (eq→eqb _ _ (f .newline))) (f .pattern)) (f .runs)
 
-sheet-same : (text : List ℕ) (c : Counts) (s : Sheet) → wordsAt text termsStart 4 0 (c .terms) ≡ s .terms → take (c .names) (drop (namesStart c) text) ≡ s .names
+sheet-same : (text : List ℕ) (c : Counts) (s : Sheet) → wordsAt text termsStart 4 0 (c .terms) ≡ s .terms
+    → take (c .names) (drop (namesStart c) text) ≡ s .names
     → wordsAt text (patternStart c) 4 0 (c .pattern) ≡ s .pattern → wordsAt text (runsStart c) 2 2 (c .runs) ≡ s .runs → sheetAt text c ≡ s
 unfolding sheetAt
 sheet-same text c s t n p r = rw (t, n, p, r) refl
 
 -- What was written reads back as the same.
-pub sheet-written : (s : Sheet) → T (sheetRule s) → T (wordsBelow (s .terms)) → T (wordsBelow (s .pattern)) → T (wordsBelow (s .runs)) → readSheet (sheetText s) ≡ some s
+pub sheet-written : (s : Sheet) → T (sheetRule s) → T (wordsBelow (s .terms)) → T (wordsBelow (s .pattern)) → T (wordsBelow (s .runs))
+    → readSheet (sheetText s) ≡ some s
 unfolding countsOf count
 sheet-written s h bt bp br =
     let t = sheetText s in
@@ -309,7 +325,8 @@ by-true text c s e = go (test (headRule text c && bodyRule text c))
     go (holds t) = let (h, b) = both-of (headRule text c) (bodyRule text c) t in let k = by-rules text c h b in (h, b, cc)
     go (fails f) = let k = by-none text c f in let z : _≡_ {A = ℕ} 0 1 = cc in absurd (omega arith)
 
-read-parts : (text : List ℕ) → T (headRule text (countsAt text)) → T (bodyRule text (countsAt text)) → SheetParts text (countsAt text) (sheetAt text (countsAt text))
+read-parts : (text : List ℕ) → T (headRule text (countsAt text)) → T (bodyRule text (countsAt text))
+    → SheetParts text (countsAt text) (sheetAt text (countsAt text))
 unfolding sheetAt countsAt numbersAt
 read-parts text h b =
     let c = countsAt text in
@@ -360,10 +377,15 @@ read-text text h b =
     let e = counts-same text c (head-facts text c h .size) in
     text-parts s ∙ ap (λ d. textOf d s) e ∙ sym (of-parts text _ _ _ _ _ _ _ _ _ (read-parts text h b))
 
-read-below : (text : List ℕ) (c : Counts) → BodyFacts text c → T (wordsBelow (sheetAt text c .terms)) × T (wordsBelow (sheetAt text c .pattern)) × T (wordsBelow (sheetAt text c .runs))
+read-below : (text : List ℕ) (c : Counts) → BodyFacts text c → T (wordsBelow (sheetAt text c .terms)) × T (wordsBelow (sheetAt text c .pattern))
+    × T (wordsBelow (sheetAt text c .runs))
 unfolding sheetAt
-read-below text c f =
-    (words-below text termsStart 4 0 (c .terms) (f .terms), words-below text (patternStart c) 4 0 (c .pattern) (f .pattern), words-below text (runsStart c) 2 2 (c .runs) (f .runs))
+read-below text c f = (
+  words-below text termsStart 4 0 (c .terms) (f .terms),
+  words-below text (patternStart c) 4 0 (c .pattern) (f .pattern),
+  words-below text
+      (runsStart c) 2 2 (c .runs) (f .runs),
+)
 
 -- Only what would be written is read.
 pub sheet-read : (text : List ℕ) (s : Sheet) → readSheet text ≡ some s

@@ -1,12 +1,19 @@
 // Writing a sheet's text (01, "The sheet"): numbers in columns, lines, the whole. The lines of an answer are written by the same functions.
+use sheet_form::Counts;
+use sheet_form::LineForm;
+use words::refusal;
 ghost use mathlib.Core.Path.{_≡_};
 ghost use mathlib.Core.List.{[], _∷_, _++_};
 ghost use mathlib.Core.Bool.{true, false};
 ghost use lib.Dec.{T, eqb};
 ghost use lib.ListN.{length, take, drop, replicate};
 ghost use Prim.Native.Nat.{_+_, _*_, _%_, _<_, _≤_};
-ghost use Rattle.sheet_spec.specs.Sheet.{column, columns, line, lineWidth, lines, limits, sheetEnd, sheetRule};
-ghost use Rattle.sheet_spec.specs.Job.{laidAt, writtenSheet};
+ghost use Rattle.term_spec.specs.Words.{count};
+ghost use Rattle.term_spec.specs.Term.{termLayout, runLayout};
+ghost use Rattle.match_spec.specs.Pattern.{itemLayout};
+ghost use Rattle.sheet_spec.specs.Sheet.{columnWidth, column, columns, line, lineWidth, lines, sheetText, sheetRule};
+ghost use Rattle.sheet_spec.specs.Job.{laid, laidAt, writtenSheet};
+ghost use Rattle.sheet_form.specs.Form.{lineBytes, Short, asCounts};
 ghost use Rattle.sheet_write.specs.Write.{writtenOf, sheetOf};
 
 // What writing answers: the bytes written, or a refusal.
@@ -15,8 +22,8 @@ pub enum Written {
     Refused(usize),
 }
 
-// The bytes of a line of four numbers.
-pub const LINE: usize = 41;
+// Where the last digit of a number stands.
+const LAST: usize = sheet_form::COLUMN - 1;
 
 // ---- numbers and lines ----
 
@@ -33,19 +40,19 @@ fn digit_of(v: usize) -> usize
     ensures { λ r. ⌜ (r ≡ elim (eqb v 0) [ true ↦ 32 | false ↦ 48 + v % 10 ]) × (r < 256) ⌝ }
 {
     if v == 0 {
-        return 32;
+        return sheet_form::SPACE;
     }
-    48 + v % 10
+    sheet_form::FIRST_DIGIT + v % 10
 }
 
 // v right-justified in the ten columns at p.
 fn write_column(out: &mut [u8], p: usize, v: usize)
-    requires { ⌜ p + 10 ≤ length (now out) ⌝ }
+    requires { ⌜ p + columnWidth ≤ length (now out) ⌝ }
     ensures { λ _. ⌜ now (out .exit) ≡ laidAt (now (out .entry)) p (column v) ⌝ }
 {
-    set_byte(out, p + 9, 48 + v % 10);
+    set_byte(out, p + LAST, sheet_form::FIRST_DIGIT + v % 10);
     let mut left = v / 10;
-    let mut k = 9;
+    let mut k = LAST;
     while 0 < k {
         k -= 1;
         set_byte(out, p + k, digit_of(left));
@@ -55,63 +62,62 @@ fn write_column(out: &mut [u8], p: usize, v: usize)
 
 // A line of four numbers at p.
 pub fn write_line(out: &mut [u8], p: usize, a: usize, b: usize, c: usize, d: usize)
-    requires { ⌜ p + 41 ≤ length (now out) ⌝ }
+    requires { ⌜ p + lineBytes ≤ length (now out) ⌝ }
     ensures { λ _. ⌜ now (out .exit) ≡ laidAt (now (out .entry)) p (line (a ∷ b ∷ c ∷ d ∷ [])) ⌝ }
 {
     write_column(out, p, a);
-    write_column(out, p + 10, b);
-    write_column(out, p + 20, c);
-    write_column(out, p + 30, d);
-    set_byte(out, p + 40, 10);
+    write_column(out, p + sheet_form::SECOND, b);
+    write_column(out, p + sheet_form::THIRD, c);
+    write_column(out, p + sheet_form::FOURTH, d);
+    set_byte(out, p + sheet_form::LINE_END, sheet_form::NEWLINE);
 }
 
 // The columns of `kept` words from w on.
 fn write_words(out: &mut [u8], p: usize, words: &[u32], w: usize, kept: usize)
-    requires { ⌜ (p + 10 * kept ≤ length (now out)) × (w + kept ≤ length (now words)) ⌝ }
+    requires { ⌜ (p + columnWidth * kept ≤ length (now out)) × (w + kept ≤ length (now words)) ⌝ }
     ensures { λ _. ⌜ now (out .exit) ≡ laidAt (now (out .entry)) p (columns (take kept (drop w (now (words .entry))))) ⌝ }
 {
     let mut i = 0;
     while i < kept {
-        write_column(out, p + 10 * i, words::word(words, w + i));
-        i += 1;
-    }
-}
-
-// The columns of so many zeros.
-fn write_zeros(out: &mut [u8], p: usize, zeros: usize)
-    requires { ⌜ p + 10 * zeros ≤ length (now out) ⌝ }
-    ensures { λ _. ⌜ now (out .exit) ≡ laidAt (now (out .entry)) p (columns (replicate zeros 0)) ⌝ }
-{
-    let mut i = 0;
-    while i < zeros {
-        write_column(out, p + 10 * i, 0);
+        write_column(out, p + sheet_form::COLUMN * i, words::word(words, w + i));
         i += 1;
     }
 }
 
 // A record's line: its words, then zeros.
-fn write_record(out: &mut [u8], p: usize, words: &[u32], w: usize, kept: usize, zeros: usize)
-    requires { ⌜ (p + lineWidth kept zeros ≤ length (now out)) × (w + kept ≤ length (now words)) ⌝ }
-    ensures { λ _. ⌜ now (out .exit) ≡ laidAt (now (out .entry)) p (line (take kept (drop w (now (words .entry))) ++ replicate zeros 0)) ⌝ }
+fn write_record(out: &mut [u8], p: usize, words: &[u32], w: usize, form: LineForm)
+    requires { ⌜ (p + lineWidth (form .kept) (form .zeros) ≤ length (now out)) × Short form × (w + form .kept ≤ length (now words)) ⌝ }
+    ensures { λ _.
+        let numbers = take (form .kept) (drop w (now (words .entry))) ++ replicate (form .zeros) 0 in
+        ⌜ now (out .exit) ≡ laidAt (now (out .entry)) p (line numbers) ⌝ }
 {
-    write_words(out, p, words, w, kept);
-    write_zeros(out, p + 10 * kept, zeros);
-    set_byte(out, p + 10 * (kept + zeros), 10);
+    let none = [0u32; sheet_form::MOST_COLUMNS];
+    write_words(out, p, words, w, form.kept);
+    write_words(
+        out,
+        p + sheet_form::COLUMN * form.kept,
+        &none,
+        0,
+        form.zeros,
+    );
+    set_byte(out, p + form.end(), sheet_form::NEWLINE);
 }
 
 // The lines of n records.
-fn write_lines(out: &mut [u8], p: usize, words: &[u32], kept: usize, zeros: usize, n: usize)
-    requires { ⌜ (p + lineWidth kept zeros * n ≤ length (now out)) × (kept * n ≤ length (now words)) × (kept + zeros ≤ 10) ⌝ }
-    ensures { λ _. ⌜ now (out .exit) ≡ laidAt (now (out .entry)) p (lines kept zeros n (now (words .entry))) ⌝ }
+fn write_lines(out: &mut [u8], p: usize, words: &[u32], form: LineForm, n: usize)
+    requires { ⌜ (p + lineWidth (form .kept) (form .zeros) * n ≤ length (now out)) × (form .kept * n ≤ length (now words)) × Short form ⌝ }
+    ensures { λ _.
+        let text = lines (form .kept) (form .zeros) n (now (words .entry)) in
+        ⌜ now (out .exit) ≡ laidAt (now (out .entry)) p text ⌝ }
 {
-    let width = 10 * (kept + zeros) + 1;
+    let width = form.width();
     let mut at = p;
     let mut w = 0;
     let mut i = 0;
     while i < n {
-        write_record(out, at, words, w, kept, zeros);
+        write_record(out, at, words, w, form);
         at += width;
-        w += kept;
+        w += form.kept;
         i += 1;
     }
 }
@@ -130,37 +136,56 @@ fn copy_bytes(out: &mut [u8], p: usize, bytes: &[u8])
     }
 }
 
-// Whole records, and counts within the sheet's limits.
-fn sheet_ok(terms: &[u32], names: &[u8], pattern: &[u32], runs: &[u32]) -> bool
-    ensures { λ r. ⌜ r ≡ sheetRule (sheetOf (now (terms .entry)) (now (names .entry)) (now (pattern .entry)) (now (runs .entry))) ⌝ }
+// The counts of what is to be written.
+fn counts_of(terms: &[u32], names: &[u8], pattern: &[u32], runs: &[u32]) -> Counts
+    ensures { λ r.
+        let t = count termLayout (now (terms .entry)) in
+        let n = length (now (names .entry)) in
+        let p = count itemLayout (now (pattern .entry)) in
+        let u = count runLayout (now (runs .entry)) in
+        ⌜ asCounts r ≡ record { terms = t; names = n; pattern = p; runs = u } ⌝ }
 {
-    if terms.len() % 4 != 0 {
-        return false;
+    Counts {
+        terms: terms.len() / words::TERM_WIDTH,
+        names: names.len(),
+        pattern: pattern.len() / items::ITEM_WIDTH,
+        runs: runs.len() / words::RUN_WIDTH,
     }
-    if pattern.len() % 4 != 0 {
-        return false;
-    }
-    if runs.len() % 2 != 0 {
-        return false;
-    }
-    if 512 < terms.len() / 4 {
-        return false;
-    }
-    if 4096 < names.len() {
-        return false;
-    }
-    if 256 < pattern.len() / 4 {
-        return false;
-    }
-    runs.len() / 2 <= 64
 }
 
-// The bytes of a sheet of so many terms, name bytes, pattern records and runs.
-fn sheet_bytes(t: usize, n: usize, p: usize, r: usize) -> usize
-    requires { ⌜ T (limits t n p r) ⌝ }
-    ensures { λ k. ⌜ k ≡ sheetEnd (record { terms = t; names = n; pattern = p; runs = r }) ⌝ }
+// Whole records, and counts within the sheet's limits.
+fn sheet_ok(terms: &[u32], names: &[u8], pattern: &[u32], runs: &[u32]) -> bool
+    ensures { λ r.
+        let sheet = sheetOf (now (terms .entry)) (now (names .entry)) (now (pattern .entry)) (now (runs .entry)) in
+        ⌜ r ≡ sheetRule sheet ⌝ }
 {
-    LINE + LINE * t + n + 1 + LINE * p + LINE * r
+    if terms.len() % words::TERM_WIDTH != 0 {
+        return false;
+    }
+    if pattern.len() % items::ITEM_WIDTH != 0 {
+        return false;
+    }
+    if runs.len() % words::RUN_WIDTH != 0 {
+        return false;
+    }
+    counts_of(terms, names, pattern, runs).within_limits()
+}
+
+// The text of a sheet, part by part, to the first bytes of `out`.
+fn write_parts(terms: &[u32], names: &[u8], pattern: &[u32], runs: &[u32], out: &mut [u8])
+    requires { let sheet = sheetOf (now terms) (now names) (now pattern) (now runs) in
+        ⌜ T (sheetRule sheet) × (length (sheetText sheet) ≤ length (now out)) ⌝ }
+    ensures { λ _.
+        let sheet = sheetOf (now (terms .entry)) (now (names .entry)) (now (pattern .entry)) (now (runs .entry)) in
+        ⌜ now (out .exit) ≡ laid (sheetText sheet) (now (out .entry)) ⌝ }
+{
+    let c = counts_of(terms, names, pattern, runs);
+    write_line(out, 0, c.terms, c.names, c.pattern, c.runs);
+    write_lines(out, sheet_form::LINE, terms, LineForm::TERM, c.terms);
+    copy_bytes(out, c.names_start(), names);
+    set_byte(out, c.names_end(), sheet_form::NEWLINE);
+    write_lines(out, c.pattern_start(), pattern, LineForm::ITEM, c.pattern);
+    write_lines(out, c.runs_start(), runs, LineForm::RUN, c.runs);
 }
 
 // Writes the text of a sheet to the first bytes of `out`. 1 if the records are not whole or exceed the sheet's limits, 14 if `out` is short.
@@ -171,25 +196,17 @@ pub fn write_sheet(
     runs: &[u32],
     out: &mut [u8],
 ) -> Written
-    ensures { λ r. ⌜ (writtenOf r, now (out .exit)) ≡ writtenSheet (sheetOf (now (terms .entry)) (now (names .entry)) (now (pattern .entry)) (now (runs .entry))) (now (out .entry)) ⌝ }
+    ensures { λ r.
+        let sheet = sheetOf (now (terms .entry)) (now (names .entry)) (now (pattern .entry)) (now (runs .entry)) in
+        ⌜ (writtenOf r, now (out .exit)) ≡ writtenSheet sheet (now (out .entry)) ⌝ }
 {
     if !sheet_ok(terms, names, pattern, runs) {
-        return Written::Refused(1);
+        return Written::Refused(refusal::UNEVEN);
     }
-    let t = terms.len() / 4;
-    let p = pattern.len() / 4;
-    let r = runs.len() / 2;
-    let all = sheet_bytes(t, names.len(), p, r);
+    let all = counts_of(terms, names, pattern, runs).end();
     if out.len() < all {
-        return Written::Refused(14);
+        return Written::Refused(refusal::WORK_SHORT);
     }
-    write_line(out, 0, t, names.len(), p, r);
-    write_lines(out, LINE, terms, 4, 0, t);
-    let names_at = LINE + LINE * t;
-    copy_bytes(out, names_at, names);
-    let pattern_at = names_at + names.len() + 1;
-    set_byte(out, pattern_at - 1, 10);
-    write_lines(out, pattern_at, pattern, 4, 0, p);
-    write_lines(out, pattern_at + LINE * p, runs, 2, 2, r);
+    write_parts(terms, names, pattern, runs, out);
     Written::Bytes(all)
 }

@@ -19,48 +19,43 @@ use Rattle.match_spec.specs.Element.{Element, lit, opening, closing, call, one,
 use Rattle.match_spec.specs.Pattern.{Item, noItem, itemLayout, element, elementK, itemRuleK}
 use Rattle.match_spec.specs.Walk.{Reading, cellsOf, runs, strip, ends}
 use Rattle.match_spec.specs.RunLaws.{Inside}
-use Rattle.value.specs.Equal.{Texts, Store, equalSymbols, equalRuns}
+use Rattle.value.specs.Equal.{Texts, TermStore, equalSymbols, equalRuns}
 use Rattle.value.specs.EqualLaws.{in-names, texts-at}
 use Rattle.kinds.specs.Kinds.{takesTerm}
 use Rattle.steps.specs.declared.State.{State}
-use Rattle.steps.specs.declared.Move.{Move}
+use Rattle.steps.specs.declared.Turned.{Turned}
 use Rattle.steps.specs.declared.What.the-variants.{Stop, Next}
 use Rattle.steps.specs.Turn.{Turn, stop, next, split, called, turnIf, turnEnter, turnLeave, turnBind, turnSpread, turnTop, turn}
 use Rattle.steps.specs.declared.What.{What}
-use Rattle.steps.specs.State.{stackOf, placeOf, levelsOf, entriesOf, entriesIn, turnAs, turnOf, Known, Place, Stands, LevelsKept, EndsApart, renamed, coded, codedAll, Fine}
+use Rattle.steps.specs.State.{cellsIn, backOf, stackOf, placeOf, levelsOf, entriesOf, entriesIn, turnAs, turnOf, Known, Place, Stands, LevelsKept, EndsApart, renamed, coded, codedAll, Fine}
 use Rattle.steps.specs.ArrayLaws.{restores-same, restores-two}
-use Rattle.steps.specs.CellLaws.{if-yes, if-no, literal-value, enter-no, enter-yes, takes-record, cells-size, first-none, first-some, empty-yes, empty-no, begins-yes, begins-no, begins-long, run-begins, run-differs}
+use Rattle.steps.specs.CellLaws.{if-yes, if-no, literal-value, enter-no, enter-yes, takes-record, cells-size, first-none, first-some, empty-yes, empty-no}
+use Rattle.steps.specs.CellLaws.{begins-yes, begins-no, begins-long, run-begins, run-differs}
 
--- A turn over the terms of a store, what a run of them shows, and a run without its first k terms.
+-- A turn over the terms of a store.
 abbrev turnIn : List ℕ → List ℕ → ℕ → Element ℕ → Bool → List Run → List Run → Turn Run
 turnIn names w used = turn (runs names (decode termLayout used w))
 
-abbrev pub cellsIn : List ℕ → List ℕ → ℕ → Run → Level
-cellsIn names w used = cellsOf names (decode termLayout used w)
+-- ---- turns as the code takes them ----
 
-abbrev pub rest : ℕ → Run → Run
-rest k r = record { start = r .start + k; len = r .len - k }
-
--- ---- moves ----
-
-pub stopped : (m : Move) (s : State) (lv bd : List ℕ) → m ≡ record { what = Stop; state = s } → turnOf m lv bd ≡ stop
+pub stopped : (m : Turned) (s : State) (lv bd : List ℕ) → m ≡ record { what = Stop; state = s } → turnOf m lv bd ≡ stop
 unfolding turnAs
 stopped m s lv bd e = rw e refl
 
-pub went : (m : Move) (s : State) (lv bd : List ℕ) {ls env : List Run} → m ≡ record { what = Next; state = s } → levelsOf (placeOf s lv bd) ≡ ls → entriesOf (placeOf s lv bd) ≡ env
+pub went : (m : Turned) (s : State) (lv bd : List ℕ) {ls env : List Run} → m ≡ record { what = Next; state = s } → levelsOf (placeOf s lv bd) ≡ ls → entriesOf (placeOf s lv bd) ≡ env
     → turnOf m lv bd ≡ next ls env
 unfolding turnAs
 went m s lv bd e p q = rw e (ap₂ next p q)
 
 -- k terms are passed, or given to the next entry.
-module _ (m : Move) (s g : State) (lv : List ℕ) (k : ℕ) (e : m ≡ record { what = Next; state = g }) where
+module _ (m : Turned) (s g : State) (lv : List ℕ) (k : ℕ) (e : m ≡ record { what = Next; state = g }) where
   pub passed : (bd : List ℕ) → g ≡ record { start = s .start + k; len = s .len - k; depth = s .depth; bound = s .bound }
-      → turnOf m lv bd ≡ next (rest k (record { start = s .start; len = s .len }) ∷ stackOf (s .depth) lv) (entriesIn (s .bound) bd)
+      → turnOf m lv bd ≡ next (backOf k (record { start = s .start; len = s .len }) ∷ stackOf (s .depth) lv) (entriesIn (s .bound) bd)
   passed bd p = went m g lv bd e (ap (λ z. levelsOf (placeOf z lv bd)) p) (ap (λ z. entriesOf (placeOf z lv bd)) p)
 
   pub gave : (bd after : List ℕ) → g ≡ record { start = s .start + k; len = s .len - k; depth = s .depth; bound = s .bound + 1 }
       → entriesIn (s .bound + 1) after ≡ entriesIn (s .bound) bd ++ (record { start = s .start; len = k } ∷ [])
-      → turnOf m lv after ≡ next (rest k (record { start = s .start; len = s .len }) ∷ stackOf (s .depth) lv) (entriesIn (s .bound) bd ++ (record { start = s .start; len = k } ∷ []))
+      → turnOf m lv after ≡ next (backOf k (record { start = s .start; len = s .len }) ∷ stackOf (s .depth) lv) (entriesIn (s .bound) bd ++ (record { start = s .start; len = k } ∷ []))
   gave bd after p q = went m g lv after e (ap (λ z. levelsOf (placeOf z lv after)) p) (ap (λ z. entriesOf (placeOf z lv after)) p ∙ q)
 
 -- ---- entries ----
@@ -83,11 +78,11 @@ top-in used s h = h .levels-in .0
 
 -- ---- words of levels ----
 
--- A move that leaves the levels' words.
+-- A turn that leaves the levels' words.
 pub levels-same : (d : ℕ) (w : What) (lv : List ℕ) → LevelsKept d w lv lv
 levels-same d w lv = record { back = restores-same d lv; same = λ n. refl }
 
--- A move that goes on after it wrote level d.
+-- A turn that goes on after it wrote level d.
 pub levels-wrote : (d : ℕ) (w : What) (lv after : List ℕ) (a b : ℕ) → w ≡ Next → after ≡ set (set lv (2 * d) a) (2 * d + 1) b → LevelsKept d w lv after
 levels-wrote d w lv after a b e q = record { back = rw q (restores-two d lv a b); same = λ n. absurd (n e) }
 
@@ -105,7 +100,7 @@ literal-in (suc (suc zero)) names t h r = r
 literal-in (suc (suc (suc k))) names t h r = absurd (omega arith)
 
 -- The texts of a literal and of a term of the store lie in the names.
-pub literal-texts : (names w : List ℕ) (used i : ℕ) (t : Item) (u : Term) → Store names w used → i < used → u ≡ recordAt termLayout w i
+pub literal-texts : (names w : List ℕ) (used i : ℕ) (t : Item) (u : Term) → TermStore names w used → i < used → u ≡ recordAt termLayout w i
     → t .kind < 3 → T (itemRuleK (t .kind) names t) → Texts names (termOfItem t) u
 literal-texts names w used i t u store lt e h r = record {
   left = in-names (t .kind) names [] (termOfItem t) (literal-in (t .kind) names t h r);
@@ -136,7 +131,7 @@ module _ (names w : List ℕ) (used : ℕ) (t : Item) (x : ℕ) (last : Bool) (r
     literal-differs e =
         rw (coded-literal names t x h) (sym (first-some names w used r st _ u at inside some ∙ if-no _ _ (sym (literal-value names _ u _ h) ∙ sym q ∙ e)))
 
-    pub literal-equals : b ≡ true → next (rest 1 r ∷ st) env ≡ turnIn names w used (coded names t x) last (r ∷ st) env
+    pub literal-equals : b ≡ true → next (backOf 1 r ∷ st) env ≡ turnIn names w used (coded names t x) last (r ∷ st) env
     unfolding turn
     literal-equals e =
         rw (coded-literal names t x h) (sym (first-some names w used r st _ u at inside some ∙ if-yes _ _ (sym (literal-value names _ u _ h) ∙ sym q ∙ e)))
@@ -154,11 +149,11 @@ module _ (names w : List ℕ) (used : ℕ) (last : Bool) (r : Run) (st env : Lis
     open-other n = sym (first-some names w used r st _ u at inside some ∙ enter-no names u _ _ n)
 
     pub open-bracket : u .kind ≡ 3
-        → next (record { start = u .a; len = u .b } ∷ (rest 1 r ∷ st)) env ≡ turnIn names w used opening last (r ∷ st) env
+        → next (record { start = u .a; len = u .b } ∷ (backOf 1 r ∷ st)) env ≡ turnIn names w used opening last (r ∷ st) env
     unfolding turn
     open-bracket n =
         let e : u ≡ getD (decode termLayout used w) (r .start) noTerm = at ∙ sym (decode-at termLayout used (r .start) w noTerm (omega arith)) in
-        ap (λ z. next (contentsRun z ∷ (rest 1 r ∷ st)) env) e
+        ap (λ z. next (contentsRun z ∷ (backOf 1 r ∷ st)) env) e
         ∙ sym (first-some names w used r st _ u at inside some ∙ enter-yes names u _ _ n)
 
   module _ (q : Run) (more : List Run) (e : st ≡ q ∷ more) where
@@ -213,28 +208,28 @@ module _ (names w : List ℕ) (used : ℕ) (t : Item) (x : ℕ) (last : Bool) (r
 
     module _ (e : b ≡ true) where
       single-taken : turnIn names w used (coded names t x) last (r ∷ st) env
-          ≡ turnBind (runs names (decode termLayout used w)) x (record { start = r .start; len = 1 }) (rest 1 r ∷ st) env (decLt x (length env))
+          ≡ turnBind (runs names (decode termLayout used w)) x (record { start = r .start; len = 1 }) (backOf 1 r ∷ st) env (decLt x (length env))
       unfolding turn
       single-taken =
           let (j, p, q) = coded-single names t x low high in
           rw q (first-some names w used r st _ u at inside some ∙ if-yes _ _ (takes-record j names u _ ∙ ap (λ z. takesTerm z u) p ∙ sym takes ∙ e))
 
       pub single-new : length env ≤ x
-          → next (rest 1 r ∷ st) (env ++ (record { start = r .start; len = 1 } ∷ []))
+          → next (backOf 1 r ∷ st) (env ++ (record { start = r .start; len = 1 } ∷ []))
           ≡ turnIn names w used (coded names t x) last (r ∷ st) env
       single-new n = sym (single-taken ∙ bind-new _ x _ _ env _ n)
 
       module _ (v : Run) (known : x < length env) (entry : v ≡ getD env x noRun) {c : Bool} (same : c ≡ equalRuns names w used (v .start) (v .len) (r .start) 1) where
         single-known : turnIn names w used (coded names t x) last (r ∷ st) env
             ≡ turnIf (sames? (cellsIn names w used v) (cellsIn names w used (record { start = r .start; len = 1 })))
-            (next (rest 1 r ∷ st) env)
+            (next (backOf 1 r ∷ st) env)
         single-known = single-taken ∙ bind-known _ x _ _ env _ known ∙ rw (← entry) refl
 
         pub single-differs : c ≡ false → stop ≡ turnIn names w used (coded names t x) last (r ∷ st) env
         unfolding equalRuns cellsOf
         single-differs d = sym (single-known ∙ if-no _ _ (sym same ∙ d))
 
-        pub single-equals : c ≡ true → next (rest 1 r ∷ st) env ≡ turnIn names w used (coded names t x) last (r ∷ st) env
+        pub single-equals : c ≡ true → next (backOf 1 r ∷ st) env ≡ turnIn names w used (coded names t x) last (r ∷ st) env
         unfolding equalRuns cellsOf
         single-equals d = sym (single-known ∙ if-yes _ _ (sym same ∙ d))
 
@@ -257,11 +252,11 @@ module _ {R P : Type 0} (rd : Reading R) (x : R) (env : List R) (r : R) (st : Li
   spread-open (no k) h = refl
 
 module _ (names w : List ℕ) (used x : ℕ) (r : Run) (st env : List Run) (inside : r .start + r .len ≤ used) where
-  pub many-last : {last : Bool} → last ≡ true → length env ≤ x → next (rest (r .len) r ∷ st) (env ++ (r ∷ [])) ≡ turnIn names w used (many x) last (r ∷ st) env
+  pub many-last : {last : Bool} → last ≡ true → length env ≤ x → next (backOf (r .len) r ∷ st) (env ++ (r ∷ [])) ≡ turnIn names w used (many x) last (r ∷ st) env
   unfolding turn turnTop
   many-last e n =
       let l : length (cellsIn names w used r) ≡ r .len = cells-size names w used r inside in
-      rw e (sym (spread-last _ _ env r st (decLt x (length env)) (λ h. omega arith) ∙ ap (λ k. next (rest k r ∷ st) (env ++ (r ∷ []))) l))
+      rw e (sym (spread-last _ _ env r st (decLt x (length env)) (λ h. omega arith) ∙ ap (λ k. next (backOf k r ∷ st) (env ++ (r ∷ []))) l))
 
   pub many-split : {last : Bool} → last ≡ false → length env ≤ x → split r st env ≡ turnIn names w used (many x) last (r ∷ st) env
   unfolding turn turnTop
@@ -270,12 +265,12 @@ module _ (names w : List ℕ) (used x : ℕ) (r : Run) (st env : List Run) (insi
   module _ (last : Bool) (v : Run) (known : x < length env) (entry : v ≡ getD env x noRun) (within : v .start + v .len ≤ used) where
     many-known : turnIn names w used (many x) last (r ∷ st) env
         ≡ turnEnter (strip (cellsIn names w used v) (cellsIn names w used r))
-        (next (rest (v .len) r ∷ st) env)
+        (next (backOf (v .len) r ∷ st) env)
     unfolding turn turnTop
     many-known =
         spread-known _ _ env r st (decLt x (length env)) last known
         ∙ rw (← entry)
-        (ap (λ k. turnEnter (strip (cellsIn names w used v) (cellsIn names w used r)) (next (rest k r ∷ st) env))
+        (ap (λ k. turnEnter (strip (cellsIn names w used v) (cellsIn names w used r)) (next (backOf k r ∷ st) env))
         (cells-size names w used v within))
 
     pub many-long : r .len < v .len → stop ≡ turnIn names w used (many x) last (r ∷ st) env
@@ -285,7 +280,7 @@ module _ (names w : List ℕ) (used x : ℕ) (r : Run) (st env : List Run) (insi
       pub many-differs : c ≡ false → stop ≡ turnIn names w used (many x) last (r ∷ st) env
       many-differs d = sym (many-known ∙ begins-no _ _ _ (run-differs names w used v r within inside fits same d))
 
-      pub many-equals : c ≡ true → next (rest (v .len) r ∷ st) env ≡ turnIn names w used (many x) last (r ∷ st) env
+      pub many-equals : c ≡ true → next (backOf (v .len) r ∷ st) env ≡ turnIn names w used (many x) last (r ∷ st) env
       many-equals d = sym (many-known ∙ begins-yes _ _ _ (run-begins names w used v r within inside fits same d))
 
 -- ---- the record ----

@@ -19,6 +19,7 @@ use Rattle.match_spec.specs.Walk.{Event, reached, Reading, runs, cellsOf, strip
 use Rattle.match_spec.specs.WalkLaws.{strip-sound}
 use Rattle.match_spec.specs.RunLaws.{Inside, inner-inside, cells-few}
 use Rattle.steps.specs.Turn.{Turn, stop, next, split, called, turnIf, turnEnter, turnHead, turnEmpty, turnFirst, turnLeave, turnBind, turnSpread, turnTop, turn, oneSplit, onward}
+use Rattle.steps.specs.Stays.{Sound, Stays, Kept, Grows}
 
 -- ---- one turn, and then going on ----
 
@@ -96,17 +97,6 @@ module _ {R : Type 0} (rd : Reading R) (p : List (Element ℕ)) where
 
 -- ---- what a turn keeps ----
 
--- A pattern that fits d brackets around it, b entries known before it and m entries in all.
-unfoldable pub Sound : List (Element ℕ) → ℕ → ℕ → ℕ → Type 0
-Sound [] d b m = (d ≡ 0) × (b ≡ m)
-Sound (lit v ∷ p) d b m = Sound p d b m
-Sound (opening ∷ p) d b m = (d < 32) × Sound p (suc d) b m
-Sound (closing ∷ p) zero b m = ⊥
-Sound (closing ∷ p) (suc d) b m = Sound p d b m
-Sound (call ∷ p) d b m = Sound p d b m
-Sound (one k n ∷ p) d b m = (n ≤ b) × Sound p d (max b (suc n)) m
-Sound (many n ∷ p) d b m = (n ≤ b) × Sound p d (max b (suc n)) m
-
 pub sound-most : (p : List (Element ℕ)) (d b m : ℕ) → Sound p d b m → b ≤ m
 unfolding Sound
 sound-most [] d b m h = omega arith
@@ -117,22 +107,6 @@ sound-most (closing ∷ p) (suc d) b m h = sound-most p d b m h
 sound-most (call ∷ p) d b m h = sound-most p d b m h
 sound-most (one k n ∷ p) d b m h = omega (arith, sound-most p d (max b (suc n)) m (h .1))
 sound-most (many n ∷ p) d b m h = omega (arith, sound-most p d (max b (suc n)) m (h .1))
-
--- The walk may stand at the levels r and st around it: they and the entries are inside the terms, and the pattern fits.
-pub record Stays (used : ℕ) (p : List (Element ℕ)) (m : ℕ) (r : Run) (st env : List Run) : Type 0 where
-  pub level-in : Inside used r
-  pub around-in : All (Inside used) st
-  pub entries-in : All (Inside used) env
-  pub shallow : length st ≤ 32
-  pub sound : Sound p (length st) (length env) m
-
--- Where a turn goes on, the walk may stand there; where it splits, it splits the innermost level, and one entry more is known after it.
-unfoldable pub Kept : ℕ → List (Element ℕ) → ℕ → Run → List Run → List Run → Turn Run → Type 0
-Kept used p m r st env stop = Unit {0}
-Kept used p m r st env (next [] new) = ⊥
-Kept used p m r st env (next (q ∷ us) new) = Stays used p m q us new
-Kept used p m r st env (split q us new) = (q ≡ r) × (us ≡ st) × (new ≡ env) × Sound p (length st) (suc (length env)) m
-Kept used p m r st env called = Unit {0}
 
 module _ (names : List ℕ) (ts : List Term) (valid : Valid ts) (p : List (Element ℕ)) (m : ℕ) (r : Run) (st env : List Run) where
   abbrev K : Turn Run → Type 0
@@ -213,7 +187,7 @@ module _ (names : List ℕ) (ts : List Term) (valid : Valid ts) (p : List (Eleme
           shallow = few;
           sound = rw z at s;
         }
-    kept-spread n le s false x (no lt) = let z : max (length env) (suc n) ≡ suc (length env) = omega arith in (refl, refl, refl, rw z at s)
+    kept-spread n le s false x (no lt) = let z : max (length env) (suc n) ≡ suc (length env) = omega arith in record { level = refl; around = refl; entries = refl; sound = rw z at s }
 
     -- the level ends
     kept-leave : (us : List Run) → All (Inside (length ts)) us → length us ≤ 32 → Sound (closing ∷ p) (length us) (length env) m → K (turnLeave rd (r ∷ us) env)
@@ -250,18 +224,12 @@ turn-kept names ts valid closing p m last r st env s = kept-leave names ts valid
 turn-kept names ts valid call p m last r st env s = tt
 turn-kept names ts valid (one k n) p m last r st env s =
     kept-first names ts valid p m r st env _ (λ w l e. kept-if names ts valid p m r st env (takes? k w) _
-    (kept-bind names ts valid p m r st env (s .level-in) (s .around-in) (s .entries-in) (s .shallow) n (s .sound .0) (s .sound .1) (some-left names ts valid p m r st env w l e) (decLt n (length env))))
+    (kept-bind names ts valid p m r st env (s .level-in) (s .around-in) (s .entries-in) (s .shallow) n (s .sound .0) (s .sound .1)
+    (some-left names ts valid p m r st env w l e) (decLt n (length env))))
 turn-kept names ts valid (many n) p m last r st env s =
     kept-spread names ts valid p m r st env (s .level-in) (s .around-in) (s .entries-in) (s .shallow) n (s .sound .0) (s .sound .1) last _ (decLt n (length env))
 
 -- ---- entries are only added ----
-
--- Where a turn goes on, at least n entries are known.
-unfoldable pub Grows : {R : Type 0} → ℕ → Turn R → Type 0
-Grows n stop = Unit {0}
-Grows n (next ls new) = n ≤ length new
-Grows n (split q us new) = Unit {0}
-Grows n called = Unit {0}
 
 module _ {R : Type 0} (rd : Reading R) (env : List R) where
   grows-stop : Grows {R = R} (length env) stop

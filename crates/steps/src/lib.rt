@@ -6,19 +6,20 @@ use words::Term;
 ghost use mathlib.Core.Path.{_≡_};
 ghost use mathlib.Core.List.{List, [], _∷_, _++_};
 ghost use mathlib.Core.Bool.{Bool, true};
-ghost use Prim.Native.Nat.{ℕ, _+_, _-_, _*_, _<_, _≤_};
+ghost use Prim.Native.Nat.{ℕ, _+_, _*_, _<_, _≤_};
 ghost use lib.Dec.{T};
-ghost use lib.ListN.{length, getD, set, drop};
-ghost use Rattle.term_spec.specs.Words.{decode, records};
-ghost use Rattle.term_spec.specs.Term.{termLayout};
-ghost use Rattle.match_spec.specs.Pattern.{itemLayout, itemRuleK};
-ghost use Rattle.match_spec.specs.Walk.{runs, ends};
-ghost use Rattle.value.specs.Equal.{Store};
+ghost use lib.ListN.{getD, set, drop};
+ghost use Rattle.term_spec.specs.Words.{Lies};
+ghost use Rattle.term_spec.specs.Term.{limit, runLayout, noRun};
+ghost use Rattle.match_spec.specs.Pattern.{itemRuleK, nestingLimit, nameLimit, openKind, symbolVariableKind, termVariableKind};
+ghost use Rattle.match_spec.specs.Walk.{ends};
+ghost use Rattle.value.specs.Equal.{TermStore};
 ghost use Rattle.items.specs.Records.{asItem};
+ghost use Rattle.words.specs.Records.{asRun};
 ghost use Rattle.match_spec.specs.Element.{opening, closing, many};
 ghost use Rattle.steps.specs.declared.What.the-variants.{Stop, Next};
-ghost use Rattle.steps.specs.Turn.{turn};
-ghost use Rattle.steps.specs.State.{placeOf, levelsOf, entriesOf, entriesIn, turnOf, Known, Stands, LevelsKept, EndsApart, coded, codedAll, Fine};
+ghost use Rattle.steps.specs.State.{passing, giving, leftOf, frontOf, placeOf, entriesIn, turnOf, turnAt, LevelRoom, EntryRoom};
+ghost use Rattle.steps.specs.State.{RunReady, InStore, InTerms, Known, Stands, LevelsKept, EndsApart, coded, patternIn, Fine};
 
 // Where the walk stands: what is left of the innermost level, how many levels are around it, and how many entries are known. The runs of
 // these levels (the outermost first) and entries are in lent words, two to a run: nothing large goes by value.
@@ -30,12 +31,12 @@ pub struct State {
 }
 
 // The words of 32 levels, and of the place after them, which is read where all 32 are used.
-pub const LEVEL_WORDS: usize = 66;
+pub const LEVEL_WORDS: usize = (items::NESTING_LIMIT + 1) * words::RUN_WIDTH;
 
 // The words of the entries: 64 runs.
-pub const ENTRY_WORDS: usize = 128;
+pub const ENTRY_WORDS: usize = items::NAME_LIMIT * words::RUN_WIDTH;
 
-// What a record does: nothing fits, it goes on, it is split, it is a Call or Block.
+// What a record does, its turn: nothing fits, it goes on, it is split, it is a Call or Block.
 pub enum What {
     Stop,
     Next,
@@ -43,16 +44,16 @@ pub enum What {
     Call,
 }
 
-// What a record does, and where the walk stands after it.
-pub struct Move {
+// A turn taken: what the record does, and where the walk stands after it.
+pub struct Turned {
     pub what: What,
     pub state: State,
 }
 
 // k terms of the innermost level are passed.
 pub fn pass(s: State, k: usize) -> State
-    requires { ⌜ (k ≤ s .len) × (s .start + s .len ≤ 65536) ⌝ }
-    ensures { λ r. ⌜ r ≡ record { start = s .start + k; len = s .len - k; depth = s .depth; bound = s .bound } ⌝ }
+    requires { ⌜ (k ≤ s .len) × (s .start + s .len ≤ limit) ⌝ }
+    ensures { λ r. ⌜ r ≡ passing s k ⌝ }
 {
     State {
         start: s.start + k,
@@ -64,8 +65,10 @@ pub fn pass(s: State, k: usize) -> State
 
 // The next entry gets the first k terms of the innermost level, which are passed.
 pub fn give(s: State, k: usize, binds: &mut [u32]) -> State
-    requires { ⌜ (k ≤ s .len) × (s .start + s .len ≤ 65536) × (s .bound < 64) × (128 ≤ length (now binds)) ⌝ }
-    ensures { λ r. ⌜ (r ≡ record { start = s .start + k; len = s .len - k; depth = s .depth; bound = s .bound + 1 }) × (entriesIn (s .bound + 1) (now (binds .exit)) ≡ entriesIn (s .bound) (now (binds .entry)) ++ (record { start = s .start; len = k } ∷ [])) ⌝ }
+    requires { ⌜ (k ≤ s .len) × (s .start + s .len ≤ limit) × (s .bound < nameLimit) × EntryRoom (now binds) ⌝ }
+    ensures { λ r.
+        let before = entriesIn (s .bound) (now (binds .entry)) in
+        ⌜ (r ≡ giving s k) × (entriesIn (s .bound + 1) (now (binds .exit)) ≡ before ++ (frontOf k (leftOf s) ∷ [])) ⌝ }
 {
     let i = s.bound;
     words::set_word(binds, 2 * i, s.start);
@@ -80,35 +83,41 @@ pub fn give(s: State, k: usize, binds: &mut [u32]) -> State
 
 // The run that entry x was given.
 pub fn entry(binds: &[u32], x: usize) -> Run
-    requires { ⌜ 2 * x + 2 ≤ length (now binds) ⌝ }
-    ensures { λ r. ⌜ ((n : ℕ) → x < n → record { start = r .start; len = r .len } ≡ getD (entriesIn n (now (binds .entry))) x (record { start = 0; len = 0 })) ⌝ }
+    requires { ⌜ Lies runLayout (now binds) (x + 1) ⌝ }
+    ensures { λ r. ⌜ ((n : ℕ) → x < n → asRun r ≡ getD (entriesIn n (now (binds .entry))) x noRun) ⌝ }
 {
     words::get_run(binds, x)
 }
 
-fn stop(s: State) -> Move
+fn stop(s: State) -> Turned
     ensures { λ r. ⌜ r ≡ record { what = Stop; state = s } ⌝ }
 {
-    Move {
+    Turned {
         what: What::Stop,
         state: s,
     }
 }
 
-fn next(s: State) -> Move
+fn next(s: State) -> Turned
     ensures { λ r. ⌜ r ≡ record { what = Next; state = s } ⌝ }
 {
-    Move {
+    Turned {
         what: What::Next,
         state: s,
     }
 }
 
 // A literal: the first term equals it.
-fn step_literal(names: &[u8], terms: &[u32], used: usize, t: Item, s: State) -> Move
-    requires { ⌜ Store (now names) (now terms) used × (used ≤ 65536) × (s .start + s .len ≤ used) ⌝ }
-    requires { ⌜ T (itemRuleK (t .kind) (now names) (asItem t)) × (t .kind < 3) ⌝ }
-    ensures { λ r. ⌜ ((x : ℕ) (last : Bool) (lv bd : List ℕ) → turnOf r lv bd ≡ turn (runs (now (names .entry)) (decode termLayout used (now (terms .entry)))) (coded (now (names .entry)) (asItem t) x) last (levelsOf (placeOf s lv bd)) (entriesOf (placeOf s lv bd))) ⌝ }
+fn turn_literal(names: &[u8], terms: &[u32], t: Item, s: State) -> Turned
+    requires { ⌜ InStore (now names) (now terms) (leftOf s) ⌝ }
+    requires { ⌜ T (itemRuleK (t .kind) (now names) (asItem t)) × (t .kind < openKind) ⌝ }
+    ensures { λ r.
+        let element = coded (now (names .entry)) (asItem t) in
+        let due = turnAt (now (names .entry)) (now (terms .entry)) in
+        ⌜
+        ((used x : ℕ) (last : Bool) (lv bd : List ℕ) → s .start + s .len ≤ used
+        → turnOf r lv bd ≡ due used (element x) last (placeOf s lv bd))
+        ⌝ }
 {
     if s.len == 0 {
         return stop(s);
@@ -127,15 +136,23 @@ fn step_literal(names: &[u8], terms: &[u32], used: usize, t: Item, s: State) -> 
 }
 
 // An Open: the first term is a bracket, whose contents become the innermost level.
-fn step_open(names: &[u8], terms: &[u32], used: usize, s: State, levels: &mut [u32]) -> Move
-    requires { ⌜ Store (now names) (now terms) used × (used ≤ 65536) × (s .start + s .len ≤ used) × (s .depth < 32) × (66 ≤ length (now levels)) ⌝ }
-    ensures { λ r. ⌜ ((last : Bool) (bd : List ℕ) → turnOf r (now (levels .exit)) bd ≡ turn (runs (now (names .entry)) (decode termLayout used (now (terms .entry)))) opening last (levelsOf (placeOf s (now (levels .entry)) bd)) (entriesOf (placeOf s (now (levels .entry)) bd))) × LevelsKept (s .depth) (r .what) (now (levels .entry)) (now (levels .exit)) ⌝ }
+fn turn_open(terms: &[u32], s: State, levels: &mut [u32]) -> Turned
+    requires { ⌜ InTerms (now terms) (leftOf s) × (s .depth < nestingLimit) × LevelRoom (now levels) ⌝ }
+    ensures { λ r.
+        let terms = now (terms .entry) in
+        let before = now (levels .entry) in
+        let after = now (levels .exit) in
+        ⌜
+        ((names : List ℕ) (used : ℕ) (last : Bool) (bd : List ℕ) → s .start + s .len ≤ used
+        → turnOf r after bd ≡ turnAt names terms used opening last (placeOf s before bd))
+        × LevelsKept (s .depth) (r .what) before after
+        ⌝ }
 {
     if s.len == 0 {
         return stop(s);
     }
     let u = words::get_term(terms, s.start);
-    if u.kind != 3 {
+    if u.kind != words::BRACKET {
         return stop(s);
     }
     let d = s.depth;
@@ -150,9 +167,14 @@ fn step_open(names: &[u8], terms: &[u32], used: usize, s: State, levels: &mut [u
 }
 
 // A Close: the innermost level has ended.
-fn step_close(names: &[u8], terms: &[u32], used: usize, s: State, levels: &[u32]) -> Move
-    requires { ⌜ (s .start + s .len ≤ used) × (1 ≤ s .depth) × (s .depth ≤ 32) × (66 ≤ length (now levels)) ⌝ }
-    ensures { λ r. ⌜ ((last : Bool) (bd : List ℕ) → turnOf r (now (levels .entry)) bd ≡ turn (runs (now (names .entry)) (decode termLayout used (now (terms .entry)))) closing last (levelsOf (placeOf s (now (levels .entry)) bd)) (entriesOf (placeOf s (now (levels .entry)) bd))) ⌝ }
+fn turn_close(s: State, levels: &[u32]) -> Turned
+    requires { ⌜ (1 ≤ s .depth) × (s .depth ≤ nestingLimit) × LevelRoom (now levels) ⌝ }
+    ensures { λ r.
+        let lv = now (levels .entry) in
+        ⌜
+        ((names terms : List ℕ) (used : ℕ) (last : Bool) (bd : List ℕ) → s .start + s .len ≤ used
+        → turnOf r lv bd ≡ turnAt names terms used closing last (placeOf s lv bd))
+        ⌝ }
 {
     if s.len != 0 {
         return stop(s);
@@ -167,7 +189,7 @@ fn step_close(names: &[u8], terms: &[u32], used: usize, s: State, levels: &[u32]
 }
 
 // An s- or t-variable (row 0 or 1): it takes the first term; a known one must be equal to it.
-fn step_single(
+fn turn_single(
     names: &[u8],
     terms: &[u32],
     used: usize,
@@ -175,16 +197,24 @@ fn step_single(
     x: usize,
     s: State,
     binds: &mut [u32],
-) -> Move
-    requires { ⌜ Store (now names) (now terms) used × (used ≤ 65536) × (s .start + s .len ≤ used) × Known used (s .bound) (now binds) ⌝ }
-    requires { ⌜ (5 ≤ t .kind) × (t .kind ≤ 6) × (x ≤ s .bound) × (x < 64) ⌝ }
-    ensures { λ r. ⌜ ((last : Bool) (lv : List ℕ) → turnOf r lv (now (binds .exit)) ≡ turn (runs (now (names .entry)) (decode termLayout used (now (terms .entry)))) (coded (now (names .entry)) (asItem t) x) last (levelsOf (placeOf s lv (now (binds .entry)))) (entriesOf (placeOf s lv (now (binds .entry))))) × (entriesIn (s .bound) (now (binds .exit)) ≡ entriesIn (s .bound) (now (binds .entry))) ⌝ }
+) -> Turned
+    requires { ⌜ RunReady (now names) (now terms) used (leftOf s) × Known used (s .bound) (now binds) ⌝ }
+    requires { ⌜ (symbolVariableKind ≤ t .kind) × (t .kind ≤ termVariableKind) × (x ≤ s .bound) × (x < nameLimit) ⌝ }
+    ensures { λ r.
+        let element = coded (now (names .entry)) (asItem t) x in
+        let due = turnAt (now (names .entry)) (now (terms .entry)) used element in
+        let before = now (binds .entry) in
+        let after = now (binds .exit) in
+        ⌜
+        ((last : Bool) (lv : List ℕ) → turnOf r lv after ≡ due last (placeOf s lv before))
+        × (entriesIn (s .bound) after ≡ entriesIn (s .bound) before)
+        ⌝ }
 {
     if s.len == 0 {
         return stop(s);
     }
     let u = words::get_term(terms, s.start);
-    if !kinds::variable_accepts(t.kind - 5, u) {
+    if !kinds::variable_accepts(t.kind - items::S_VARIABLE, u) {
         return stop(s);
     }
     if s.bound <= x {
@@ -198,7 +228,7 @@ fn step_single(
 }
 
 // An e-variable: a known one must equal the terms ahead; one that ends its level takes what remains; an open one is split.
-fn step_expression(
+fn turn_expression(
     names: &[u8],
     terms: &[u32],
     used: usize,
@@ -206,16 +236,23 @@ fn step_expression(
     last: bool,
     s: State,
     binds: &mut [u32],
-) -> Move
-    requires { ⌜ Store (now names) (now terms) used × (used ≤ 65536) × (s .start + s .len ≤ used) × Known used (s .bound) (now binds) ⌝ }
-    requires { ⌜ (x ≤ s .bound) × (x < 64) ⌝ }
-    ensures { λ r. ⌜ ((lv : List ℕ) → turnOf r lv (now (binds .exit)) ≡ turn (runs (now (names .entry)) (decode termLayout used (now (terms .entry)))) (many x) last (levelsOf (placeOf s lv (now (binds .entry)))) (entriesOf (placeOf s lv (now (binds .entry))))) × (entriesIn (s .bound) (now (binds .exit)) ≡ entriesIn (s .bound) (now (binds .entry))) ⌝ }
+) -> Turned
+    requires { ⌜ RunReady (now names) (now terms) used (leftOf s) × Known used (s .bound) (now binds) ⌝ }
+    requires { ⌜ (x ≤ s .bound) × (x < nameLimit) ⌝ }
+    ensures { λ r.
+        let due = turnAt (now (names .entry)) (now (terms .entry)) used (many x) last in
+        let before = now (binds .entry) in
+        let after = now (binds .exit) in
+        ⌜
+        ((lv : List ℕ) → turnOf r lv after ≡ due (placeOf s lv before))
+        × (entriesIn (s .bound) after ≡ entriesIn (s .bound) before)
+        ⌝ }
 {
     if s.bound <= x {
         if last {
             return next(give(s, s.len, binds));
         }
-        return Move {
+        return Turned {
             what: What::Split,
             state: s,
         };
@@ -233,10 +270,10 @@ fn step_expression(
 // Whether a record is a known e-variable that ends its level with another number of terms than are left: then no try fits, and the terms need
 // not be compared.
 pub fn ends_apart(kind: usize, x: usize, last: bool, s: State, binds: &[u32]) -> bool
-    requires { ⌜ (s .bound ≤ 64) × (128 ≤ length (now binds)) ⌝ }
+    requires { ⌜ (s .bound ≤ nameLimit) × EntryRoom (now binds) ⌝ }
     ensures { λ r. ⌜ (r ≡ true → EndsApart kind x last (s .bound) (s .len) (now (binds .entry))) ⌝ }
 {
-    if kind != 7 {
+    if kind != items::E_VARIABLE {
         return false;
     }
     if !last {
@@ -249,9 +286,9 @@ pub fn ends_apart(kind: usize, x: usize, last: bool, s: State, binds: &[u32]) ->
     e.len != s.len
 }
 
-// What a record does, x being the number of its name; `last` says whether its level ends after it. Of the levels it writes the place after
+// The turn of a record, x being the number of its name; `last` says whether its level ends after it. Of the levels it writes the place after
 // those around, and only where it goes on; of the entries the next one.
-pub fn step(
+pub fn turn(
     names: &[u8],
     terms: &[u32],
     used: usize,
@@ -261,27 +298,34 @@ pub fn step(
     s: State,
     levels: &mut [u32],
     binds: &mut [u32],
-) -> Move
-    requires { ⌜ Store (now names) (now terms) used × (used ≤ 65536) × Stands used (placeOf s (now levels) (now binds)) ⌝ }
+) -> Turned
+    requires { ⌜ TermStore (now names) (now terms) used × (used ≤ limit) × Stands used (placeOf s (now levels) (now binds)) ⌝ }
     requires { ⌜ T (itemRuleK (t .kind) (now names) (asItem t)) × Fine (t .kind) x (s .depth) (s .bound) ⌝ }
-    ensures { λ r. ⌜ (turnOf r (now (levels .exit)) (now (binds .exit)) ≡ turn (runs (now (names .entry)) (decode termLayout used (now (terms .entry)))) (coded (now (names .entry)) (asItem t) x) last (levelsOf (placeOf s (now (levels .entry)) (now (binds .entry)))) (entriesOf (placeOf s (now (levels .entry)) (now (binds .entry))))) × LevelsKept (s .depth) (r .what) (now (levels .entry)) (now (levels .exit)) × (entriesIn (s .bound) (now (binds .exit)) ≡ entriesIn (s .bound) (now (binds .entry))) ⌝ }
+    ensures { λ r.
+        let element = coded (now (names .entry)) (asItem t) x in
+        let due = turnAt (now (names .entry)) (now (terms .entry)) used element last in
+        ⌜
+        (turnOf r (now (levels .exit)) (now (binds .exit)) ≡ due (placeOf s (now (levels .entry)) (now (binds .entry))))
+        × LevelsKept (s .depth) (r .what) (now (levels .entry)) (now (levels .exit))
+        × (entriesIn (s .bound) (now (binds .exit)) ≡ entriesIn (s .bound) (now (binds .entry)))
+        ⌝ }
 {
-    if t.kind < 3 {
-        return step_literal(names, terms, used, t, s);
+    if t.kind < items::OPEN {
+        return turn_literal(names, terms, t, s);
     }
-    if t.kind == 3 {
-        return step_open(names, terms, used, s, levels);
+    if t.kind == items::OPEN {
+        return turn_open(terms, s, levels);
     }
-    if t.kind == 4 {
-        return step_close(names, terms, used, s, levels);
+    if t.kind == items::CLOSE {
+        return turn_close(s, levels);
     }
-    if t.kind < 7 {
-        return step_single(names, terms, used, t, x, s, binds);
+    if t.kind < items::E_VARIABLE {
+        return turn_single(names, terms, used, t, x, s, binds);
     }
-    if t.kind == 7 {
-        return step_expression(names, terms, used, x, last, s, binds);
+    if t.kind == items::E_VARIABLE {
+        return turn_expression(names, terms, used, x, last, s, binds);
     }
-    Move {
+    Turned {
         what: What::Call,
         state: s,
     }
@@ -289,7 +333,7 @@ pub fn step(
 
 // The two words of level d become what they were before an Open wrote them.
 pub fn put_back(levels: &mut [u32], d: usize, start: u32, len: u32)
-    requires { ⌜ (d ≤ 32) × (66 ≤ length (now levels)) ⌝ }
+    requires { ⌜ (d ≤ nestingLimit) × LevelRoom (now levels) ⌝ }
     ensures { λ _. ⌜ now (levels .exit) ≡ set (set (now (levels .entry)) (2 * d) start) (2 * d + 1) len ⌝ }
 {
     levels[2 * d] = start;
@@ -298,11 +342,11 @@ pub fn put_back(levels: &mut [u32], d: usize, start: u32, len: u32)
 
 // Whether a level ends before record p.
 pub fn ends_at(pattern: &[u32], p: usize) -> bool
-    ensures { λ r. ⌜ ((names numbers : List ℕ) → r ≡ ends (drop p (codedAll names (records itemLayout (now (pattern .entry))) numbers))) ⌝ }
+    ensures { λ r. ⌜ ((names numbers : List ℕ) → r ≡ ends (drop p (patternIn names (now (pattern .entry)) numbers))) ⌝ }
 {
     if pattern.len() / items::ITEM_WIDTH <= p {
         return true;
     }
     let t = items::get_item(pattern, p);
-    t.kind == 4
+    t.kind == items::CLOSE
 }

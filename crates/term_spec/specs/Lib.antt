@@ -1,4 +1,5 @@
 pub mod Words
+pub mod Refusal
 pub mod Text
 pub mod Table
 pub mod Term
@@ -9,4 +10,5 @@ pub mod TableLaws
 pub mod ValueLaws
 pub mod WordsLaws
 pub mod TermLaws
+pub mod TextExamples
 pub mod TermExamples

@@ -56,9 +56,34 @@ unfoldable pub runsRule : ℕ → List Run → Bool
 runsRule used [] = true
 runsRule used (r ∷ rs) = runRule used r && runsRule used rs
 
+-- The kinds of terms: "0 Char", "1 Identifier and 2 Number", "3 Bracket", "4 Unknown". Where a definition goes by kind, its clauses are in this
+-- order, since a numeral cannot stand in a clause.
+abbrev pub charKind : ℕ
+charKind = 0
+
+abbrev pub identifierKind : ℕ
+identifierKind = 1
+
+abbrev pub numberKind : ℕ
+numberKind = 2
+
+abbrev pub bracketKind : ℕ
+bracketKind = 3
+
+abbrev pub unknownKind : ℕ
+unknownKind = 4
+
+-- The last kind of unknowns: "0 symbol, 1 term, 2 expression".
+abbrev pub expressionUnknown : ℕ
+expressionUnknown = 2
+
 -- "At most 65,536 terms", nodes, name bytes, and terms in a field.
 abbrev pub limit : ℕ
 limit = 65536
+
+-- The deepest that brackets of terms lie: "c is its depth .. at most 255".
+abbrev pub depthLimit : ℕ
+depthLimit = 255
 
 -- "a is a Unicode scalar value": below 0xD800, or from 0xE000 to 0x10FFFF.
 unfoldable pub isScalar : ℕ → Bool
@@ -82,9 +107,10 @@ abbrev pub contentsRun : Term → Run
 contentsRun t = record { start = t .a; len = t .b }
 
 -- "3 Bracket: contents are the run of b terms from term a, a plus b at most its own number; c is its depth, 1 plus the deepest
--- bracket inside (1 if none), at most 255." Its own number is the length of what is below it.
+-- bracket inside (1 if none), at most 255." Its own number is the length of what is below it. (A bracket is one term with an expression as its
+-- contents: the Refal-5 manual's meaning as 01 gives it, sections 1.3, 2.2, 6.4.)
 unfoldable pub bracketRule : List Term → Term → Bool
-bracketRule below t = leb (t .a + t .b) (length below) && eqb (t .c) (suc (deepest (part below (contentsRun t)))) && leb (t .c) 255
+bracketRule below t = leb (t .a + t .b) (length below) && eqb (t .c) (suc (deepest (part below (contentsRun t)))) && leb (t .c) depthLimit
 
 -- The rule of a literal symbol (kinds 0 to 2), by its kind and words; patterns have the same ("kinds 0 to 2 as terms").
 unfoldable pub symbolRule : ℕ → List ℕ → ℕ → ℕ → ℕ → Bool
@@ -93,13 +119,14 @@ symbolRule (suc zero) names a b c = textRule identifierText names a b && eqb c 0
 symbolRule (suc (suc zero)) names a b c = textRule numberText names a b && eqb c 0
 symbolRule (suc (suc (suc k))) names a b c = false
 
--- The rule of a term by its kind, among the terms below it. "4 Unknown: a kind (0 symbol, 1 term, 2 expression), b level, c index".
+-- The rule of a term by its kind, among the terms below it. "4 Unknown: a kind (0 symbol, 1 term, 2 expression), b level, c index": what it
+-- stands for is a symbol, a term or an expression in the Refal-5 manual's meaning as 01 gives it (sections 1.3, 2.2, 6.4).
 unfoldable pub termRuleK : ℕ → List ℕ → List Term → Term → Bool
-termRuleK zero names below t = symbolRule 0 names (t .a) (t .b) (t .c)
-termRuleK (suc zero) names below t = symbolRule 1 names (t .a) (t .b) (t .c)
-termRuleK (suc (suc zero)) names below t = symbolRule 2 names (t .a) (t .b) (t .c)
+termRuleK zero names below t = symbolRule charKind names (t .a) (t .b) (t .c)
+termRuleK (suc zero) names below t = symbolRule identifierKind names (t .a) (t .b) (t .c)
+termRuleK (suc (suc zero)) names below t = symbolRule numberKind names (t .a) (t .b) (t .c)
 termRuleK (suc (suc (suc zero))) names below t = bracketRule below t
-termRuleK (suc (suc (suc (suc zero)))) names below t = leb (t .a) 2
+termRuleK (suc (suc (suc (suc zero)))) names below t = leb (t .a) expressionUnknown
 termRuleK (suc (suc (suc (suc (suc k))))) names below t = false
 
 -- The rule of a term among the terms below it.

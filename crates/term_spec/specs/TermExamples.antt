@@ -23,9 +23,9 @@ lowered = refl
 
 -- ---- equality ----
 
--- The names `DayDAYDaxZ7007z`.
+-- The names `DayDAYDaxZ7007za-ba_b`.
 abbrev exNames : List ℕ
-exNames = 68 ∷ 97 ∷ 121 ∷ 68 ∷ 65 ∷ 89 ∷ 68 ∷ 97 ∷ 120 ∷ 90 ∷ 55 ∷ 48 ∷ 48 ∷ 55 ∷ 122 ∷ []
+exNames = 68 ∷ 97 ∷ 121 ∷ 68 ∷ 65 ∷ 89 ∷ 68 ∷ 97 ∷ 120 ∷ 90 ∷ 55 ∷ 48 ∷ 48 ∷ 55 ∷ 122 ∷ 97 ∷ 45 ∷ 98 ∷ 97 ∷ 95 ∷ 98 ∷ []
 
 abbrev exTerms : List Term
 exTerms =
@@ -41,6 +41,8 @@ exTerms =
     ∷ tm 3 13 1 2 ∷ tm 3 14 1 2 ∷ tm 3 0 0 1
     -- 20 to 24: unknowns
     ∷ tm 4 0 1 7 ∷ tm 4 0 1 7 ∷ tm 4 1 1 7 ∷ tm 4 0 2 7 ∷ tm 4 0 1 8
+    -- 25 and 26: a-b, a_b
+    ∷ tm 1 15 3 0 ∷ tm 1 18 3 0
     ∷ []
 
 -- Two terms of the list above, by their numbers, and whether they are equal.
@@ -69,8 +71,8 @@ equalTerms i j = equalValues (getD (values exNames exTerms) i (char 0)) (getD (v
 
 abbrev compared : List Compared
 compared =
-    -- identifiers by their lowered text: Day and DAY, Day and Dax, Z and z
-    alike 0 1 ∷ unlike 0 2 ∷ alike 3 4
+    -- identifiers by their lowered text: Day and DAY, Day and Dax, Z and z; `-` is not `_`
+    alike 0 1 ∷ unlike 0 2 ∷ alike 3 4 ∷ unlike 25 26 ∷ alike 25 25
     -- numbers by their text, wherever it stands: 7 and 007, 7 and 7
     ∷ unlike 5 6 ∷ alike 5 7
     -- a Char and a Number, a Char and an Identifier of the same text; Chars by value, with their case
@@ -96,6 +98,11 @@ unfolding isLetter isDigit isNameByte every identifierText numberText textRule i
 equal-terms-lawful = refl
 
 -- ---- the rules of terms ----
+
+-- Scalar values at their edges: 0, 0xD7FF, 0xD800, 0xDFFF, 0xE000, 0x10FFFF, 0x110000.
+scalars : map isScalar (0 ∷ 55295 ∷ 55296 ∷ 57343 ∷ 57344 ∷ 1114111 ∷ 1114112 ∷ []) ≡ true ∷ true ∷ false ∷ false ∷ true ∷ true ∷ false ∷ []
+unfolding isScalar
+scalars = refl
 
 -- A term among the terms below it, and whether it is within its rule.
 record Judged : Type 0 where

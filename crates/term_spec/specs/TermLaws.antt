@@ -11,7 +11,7 @@ use Rattle.term_spec.specs.BoolLaws.{both-of, and-of, eq→eqb}
 use Rattle.term_spec.specs.ListLaws.{part-kept}
 use Rattle.term_spec.specs.TableLaws.{table-length, table-kept}
 use Rattle.term_spec.specs.Text.{textAt}
-use Rattle.term_spec.specs.Term.{Term, noTerm, Run, part, contentsRun, deepest, runRule, bracketRule, termRuleK, termRule, termsRule}
+use Rattle.term_spec.specs.Term.{Term, noTerm, Run, part, bracketKind, depthLimit, contentsRun, deepest, runRule, bracketRule, termRuleK, termRule, termsRule}
 use Rattle.term_spec.specs.Value.{Value, bracketed, valueK, valueOf, values}
 
 -- ---- rules ----
@@ -27,19 +27,19 @@ facts-run used r h = le→leb _ _ h
 pub record BracketFacts (below : List Term) (t : Term) : Type 0 where
   pub inside : t .a + t .b ≤ length below
   pub depth : t .c ≡ suc (deepest (part below (contentsRun t)))
-  pub shallow : t .c ≤ 255
+  pub shallow : t .c ≤ depthLimit
 
 pub bracket-facts : (below : List Term) (t : Term) → T (bracketRule below t) → BracketFacts below t
 unfolding bracketRule
 bracket-facts below t h =
-    let (h1, z) = both-of (leb (t .a + t .b) (length below) && eqb (t .c) (suc (deepest (part below (contentsRun t))))) (leb (t .c) 255) h in
+    let (h1, z) = both-of (leb (t .a + t .b) (length below) && eqb (t .c) (suc (deepest (part below (contentsRun t))))) (leb (t .c) depthLimit) h in
     let (x, y) = both-of (leb (t .a + t .b) (length below)) (eqb (t .c) (suc (deepest (part below (contentsRun t))))) h1 in
     record { inside = leb→le _ _ x; depth = eqb→eq _ _ y; shallow = leb→le _ _ z }
 
 bracket-rule : (below : List Term) (t : Term) → BracketFacts below t → T (bracketRule below t)
 unfolding bracketRule
 bracket-rule below t r =
-    and-of (leb (t .a + t .b) (length below) && eqb (t .c) (suc (deepest (part below (contentsRun t))))) (leb (t .c) 255)
+    and-of (leb (t .a + t .b) (length below) && eqb (t .c) (suc (deepest (part below (contentsRun t))))) (leb (t .c) depthLimit)
     (and-of (leb (t .a + t .b) (length below)) (eqb (t .c) (suc (deepest (part below (contentsRun t))))) (le→leb _ _ (r .inside)) (eq→eqb _ _ (r .depth)))
     (le→leb _ _ (r .shallow))
 
@@ -91,9 +91,9 @@ terms-append names ts us h k = append-above names [] ts us h k
 
 -- A bracket's contents end at or below its own number: what the walk needs of a store.
 unfoldable pub Valid : List Term → Type 0
-Valid ts = (i : ℕ) → i < length ts → (getD ts i noTerm) .kind ≡ 3 → (getD ts i noTerm) .a + (getD ts i noTerm) .b ≤ i
+Valid ts = (i : ℕ) → i < length ts → (getD ts i noTerm) .kind ≡ bracketKind → (getD ts i noTerm) .a + (getD ts i noTerm) .b ≤ i
 
-pub bracket-of : (k : ℕ) (names : List ℕ) (below : List Term) (t : Term) → k ≡ 3 → T (termRuleK k names below t) → BracketFacts below t
+pub bracket-of : (k : ℕ) (names : List ℕ) (below : List Term) (t : Term) → k ≡ bracketKind → T (termRuleK k names below t) → BracketFacts below t
 unfolding termRuleK
 bracket-of k names below t e h = bracket-facts below t (rw e at h)
 

@@ -5,15 +5,15 @@ use lib.Dec.{leb, eqb}
 use lib.ListN.{length, take, drop}
 use Prim.Native.Nat.{ℕ, _+_}
 
--- Letters and digits are ASCII.
+-- Letters and digits are ASCII: `A` to `Z` are 65 to 90, `a` to `z` 97 to 122.
 unfoldable pub isLetter : ℕ → Bool
 isLetter c = leb 65 c && leb c 90 || leb 97 c && leb c 122
 
--- An ASCII digit.
+-- An ASCII digit: `0` to `9` are 48 to 57.
 unfoldable pub isDigit : ℕ → Bool
 isDigit c = leb 48 c && leb c 57
 
--- A letter, a digit, `-` or `_`.
+-- A letter, a digit, `-` (45) or `_` (95).
 unfoldable pub isNameByte : ℕ → Bool
 isNameByte c = isLetter c || isDigit c || eqb c 45 || eqb c 95
 
@@ -39,10 +39,14 @@ variableText l = every isNameByte l
 abbrev pub textAt : List ℕ → ℕ → ℕ → List ℕ
 textAt names o n = take n (drop o names)
 
+-- The longest text of an identifier, a number or a variable's name.
+abbrev pub textLimit : ℕ
+textLimit = 255
+
 -- "a offset, b length (1 to 255) in the names", and the text spelled as it should be.
 unfoldable pub textRule : (List ℕ → Bool) → List ℕ → ℕ → ℕ → Bool
-textRule spelled names o n = leb 1 n && leb n 255 && leb (o + n) (length names) && spelled (textAt names o n)
+textRule spelled names o n = leb 1 n && leb n textLimit && leb (o + n) (length names) && spelled (textAt names o n)
 
--- An ASCII letter lowered: the one place that knows how (02: 2.4).
+-- An ASCII letter lowered, `A` (65) to `a` (97): the one place that knows how (02: 2.4).
 unfoldable pub lower : ℕ → ℕ
 lower c = elim (leb 65 c && leb c 90) [ true ↦ c + 32 | false ↦ c ]

@@ -12,7 +12,8 @@ use Rattle.term_spec.specs.Term.{Term, part, contentsRun}
 use Rattle.term_spec.specs.Table.{table}
 
 mutual
-  -- A term as spelled: its text and its contents, not offsets or term numbers. An unknown has kind, level and index.
+  -- A term as spelled: its text and its contents, not offsets or term numbers. An unknown has kind, level and index. What symbols, brackets and
+  -- unknowns are is the Refal-5 manual's meaning as 01 gives it (sections 1.3, 2.2, 6.4).
   pub data Value : Type 0 where
     char : ℕ → Value
     ident : List ℕ → Value
@@ -115,7 +116,8 @@ isYes (yes h) = true
 isYes (no h) = false
 
 -- "A table fixes which variable takes which kind of term": rows s, t, e; columns Char, Identifier, Number, Bracket, symbol
--- unknown, term unknown, expression unknown.
+-- unknown, term unknown, expression unknown. An s-variable takes a symbol, a t-variable a term, an e-variable an expression: the Refal-5
+-- manual's meaning as 01 gives it (sections 1.3, 2.2, 6.4).
 unfoldable pub takesTable : List (List Bool)
 takesTable =
     (true ∷ true ∷ true ∷ false ∷ true ∷ false ∷ false ∷ [])
@@ -138,7 +140,7 @@ column (num s) = 2
 column (bracket l) = 3
 column (unknown k l i) = unknownColumn k
 
--- Whether a variable of row s, t or e (0, 1, 2) takes a value.
+-- Whether a variable of row s, t or e (0, 1, 2) takes a value; the manual's sections are named at the table.
 unfoldable pub takesRow : ℕ → Value → Bool
 takesRow r v = getD (getD takesTable r []) (column v) false
 

@@ -6,7 +6,8 @@ use mathlib.Core.Bool.{Bool, true, false}
 use lib.ListN.{getD}
 use Prim.Native.Nat.{ℕ, suc, zero}
 use native.Mathlib.Omega.{arith}
-use Rattle.term_spec.specs.Value.{Value, Values, char, ident, num, bracket, unknown, nil, cons, toList, fromList, bracketed, contents, canon, canons, Equal, forms, isYes, takesTable, unknownColumn, column, takesRow, Single, symbol, term, row, takes}
+use Rattle.term_spec.specs.Value.{Value, Values, char, ident, num, bracket, unknown, nil, cons, toList, fromList, bracketed, contents}
+use Rattle.term_spec.specs.Value.{canon, canons, Equal, forms, isYes, takesTable, unknownColumn, column, takesRow, Single, symbol, term, row, takes}
 
 to-from : (l : List Value) → toList (fromList l) ≡ l
 unfolding toList fromList

@@ -3,13 +3,21 @@ use mathlib.Core.List.{List, [], _∷_, _++_}
 use mathlib.Core.Bool.{Bool}
 use lib.Dec.{eqb}
 use lib.ListN.{length, take, drop}
-use Prim.Native.Nat.{ℕ, suc, zero, _+_, _*_, _/_, _%_}
+use Prim.Native.Nat.{ℕ, suc, zero, _+_, _*_, _-_, _/_, _%_, _≤_}
 
 -- One kind of record: its width in words, the record that such words mean, the words of a record.
 pub record Layout (A : Type 0) : Type 0 where
   pub width : ℕ
   pub read : List ℕ → A
   pub words : A → List ℕ
+
+-- n records lie in a slice.
+abbrev pub Lies : {A : Type 0} → Layout A → List ℕ → ℕ → Type 0
+Lies L w n = n * L .width ≤ length w
+
+-- At most n records lie in a slice: the words of n, and fewer than one record's more.
+abbrev pub AtMost : {A : Type 0} → Layout A → List ℕ → ℕ → Type 0
+AtMost L w n = length w ≤ n * L .width + (L .width - 1)
 
 -- The first n records of a slice.
 unfoldable pub decode : {A : Type 0} → Layout A → ℕ → List ℕ → List A

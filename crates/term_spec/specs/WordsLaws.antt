@@ -7,7 +7,7 @@ use Prim.Native.Nat.{ℕ, suc, zero, _+_, _*_, _-_, _/_, _%_, _≤_, _<_}
 use native.Mathlib.Omega.{arith}
 use native.Mathlib.Nat.{suc-mul, add-mul, le-div-iff-mul-le, mul-le-mul-right}
 use Rattle.term_spec.specs.ListLaws.{entry-next}
-use Rattle.term_spec.specs.Words.{Layout, decode, recordAt, encode, count, whole, records, write}
+use Rattle.term_spec.specs.Words.{Layout, Lies, decode, recordAt, encode, count, whole, records, write}
 use Rattle.term_spec.specs.Term.{termOf, termLayout, runOf, runLayout}
 
 -- A record's words are as many as its width, and mean the record.
@@ -108,7 +108,7 @@ pub decode-part : {A : Type 0} (L : Layout A) (n a b : ℕ) (w : List ℕ) → a
 decode-part L n a b w h = ap (take b) (decode-drop L n a w) ∙ decode-below L (n - a) b (drop (a * L .width) w) (omega arith)
 
 -- the first n records lie in the first n times width words
-pub decode-append : {A : Type 0} (L : Layout A) (n : ℕ) (w x : List ℕ) → n * L .width ≤ length w → decode L n (w ++ x) ≡ decode L n w
+pub decode-append : {A : Type 0} (L : Layout A) (n : ℕ) (w x : List ℕ) → Lies L w n → decode L n (w ++ x) ≡ decode L n w
 unfolding decode
 decode-append L zero w x h = refl
 decode-append L (suc n) w x h =
@@ -116,7 +116,7 @@ decode-append L (suc n) w x h =
     ap₂ (λ y z. L .read y ∷ decode L n z) (take-append-le (L .width) w x p) (drop-append-le (L .width) w x p)
     ∙ ap (L .read (take (L .width) w) ∷_) (decode-append L n (drop (L .width) w) x (rw length-drop q))
 
-pub decode-take : {A : Type 0} (L : Layout A) (n : ℕ) (w : List ℕ) → n * L .width ≤ length w → decode L n (take (n * L .width) w) ≡ decode L n w
+pub decode-take : {A : Type 0} (L : Layout A) (n : ℕ) (w : List ℕ) → Lies L w n → decode L n (take (n * L .width) w) ≡ decode L n w
 decode-take L n w h =
     sym (decode-append L n (take (n * L .width) w) (drop (n * L .width) w) (omega (arith, length-take-le (n * L .width) w h)))
     ∙ ap (decode L n) (take-append-drop (n * L .width) w)
@@ -135,7 +135,7 @@ decode-after L (suc n) m w x e =
     ∙ ap (L .read (take (L .width) w) ∷_) (decode-after L n m (drop (L .width) w) x l)
 
 -- the words of the first n records are the first n times width words
-pub encode-decode : {A : Type 0} (L : Layout A) → Keeps L → (n : ℕ) (w : List ℕ) → n * L .width ≤ length w → encode L (decode L n w) ≡ take (n * L .width) w
+pub encode-decode : {A : Type 0} (L : Layout A) → Keeps L → (n : ℕ) (w : List ℕ) → Lies L w n → encode L (decode L n w) ≡ take (n * L .width) w
 unfolding encode decode
 encode-decode L keeps zero w h = let z : zero * L .width ≡ zero = omega arith in ap (λ m. take m w) (sym z)
 encode-decode L keeps (suc n) w h =
@@ -167,14 +167,14 @@ module _ {A : Type 0} (L : Layout A) (lays : Lays L) where
   encode-append (r ∷ rs) qs = ap (L .words r ++_) (encode-append rs qs) ∙ sym (append-assoc (L .words r) (encode L rs) (encode L qs))
 
   -- the records before, then those written
-  pub decode-write : (w : List ℕ) (i : ℕ) (rs : List A) → i * L .width ≤ length w → decode L (i + length rs) (write L w i rs) ≡ decode L i w ++ rs
+  pub decode-write : (w : List ℕ) (i : ℕ) (rs : List A) → Lies L w i → decode L (i + length rs) (write L w i rs) ≡ decode L i w ++ rs
   unfolding write
   decode-write w i rs h =
       ap (decode L (i + length rs)) (append-assoc (take (i * L .width) w) (encode L rs) _)
       ∙ decode-after L i (length rs) (take (i * L .width) w) (encode L rs ++ drop ((i + length rs) * L .width) w) (length-take-le (i * L .width) w h)
       ∙ ap₂ _++_ (decode-take L i w h) (decode-encode rs _)
 
-  pub write-length : (w : List ℕ) (i : ℕ) (rs : List A) → (i + length rs) * L .width ≤ length w → length (write L w i rs) ≡ length w
+  pub write-length : (w : List ℕ) (i : ℕ) (rs : List A) → Lies L w (i + length rs) → length (write L w i rs) ≡ length w
   unfolding write
   write-length w i rs h =
       let p : i * L .width ≤ (i + length rs) * L .width = mul-le-mul-right (L .width) (omega arith) in
@@ -183,7 +183,7 @@ module _ {A : Type 0} (L : Layout A) (lays : Lays L) where
       ∙ omega (arith, length-append (take (i * L .width) w) (encode L rs), length-take-le (i * L .width) w (omega arith), encode-length rs, length-drop ((i + length rs) * L .width) w)
 
   -- records written, then others after them
-  pub write-append : (w : List ℕ) (i : ℕ) (rs qs : List A) → (i + length rs) * L .width ≤ length w → write L (write L w i rs) (i + length rs) qs ≡ write L w i (rs ++ qs)
+  pub write-append : (w : List ℕ) (i : ℕ) (rs qs : List A) → Lies L w (i + length rs) → write L (write L w i rs) (i + length rs) qs ≡ write L w i (rs ++ qs)
   unfolding write
   write-append w i rs qs h =
       let a = take (i * L .width) w ++ encode L rs in
@@ -206,7 +206,7 @@ module _ {A : Type 0} (L : Layout A) (lays : Lays L) where
       ap (_++ drop ((i + length {A = A} []) * L .width) w) (append-nil (take (i * L .width) w)) ∙ ap (λ n. take (i * L .width) w ++ drop (n * L .width) w) z ∙ take-append-drop (i * L .width) w
 
   -- a count of whole records
-  pub count-fits : (w : List ℕ) (n : ℕ) → n ≤ count L w → n * L .width ≤ length w
+  pub count-fits : (w : List ℕ) (n : ℕ) → n ≤ count L w → Lies L w n
   unfolding count
   count-fits w n h = le-div-iff-mul-le (lays .some-words) .0 h
 

@@ -3,15 +3,18 @@ use mathlib.Core.Path.{_≡_, refl, ap, ap₂, sym, _∙_}
 use mathlib.Core.List.{List, [], _∷_, map}
 use mathlib.Core.Bool.{Bool, true, false, _&&_}
 use borrow.Author.Tests.{le-leb, lt-leb}
-use lib.Dec.{leb}
+use lib.Dec.{T, leb, leb→le}
 use lib.ListN.{length, take, getD, length-map}
 use lib.Seq.{drop-cons}
 use Prim.Native.Nat.{ℕ, suc, zero, _+_, _-_, _<_, _≤_}
 use native.Mathlib.Nat.{add-zero, sub-zero}
 use native.Mathlib.Numerals.{add-one}
 use native.Mathlib.Omega.{arith}
-use Rattle.term_spec.specs.Text.{isLetter, every, identifierText, numberText, variableText, textAt, textRule, lower}
-use Rattle.term_spec.specs.Value.{ident, num, canon, isYes}
+use Rattle.term_spec.specs.BoolLaws.{both-of}
+use Rattle.term_spec.specs.Text.{isLetter, every, identifierText, numberText, variableText, textAt, textLimit, textRule, lower}
+use Rattle.term_spec.specs.Term.{identifierKind, numberKind}
+use Rattle.term_spec.specs.Value.{ident, num, canon}
+use Rattle.term_spec.specs.ValueLaws.{is-yes, is-no, alike}
 use Rattle.term_spec.specs.ListLaws.{part-length}
 use Rattle.text.specs.Texts.{byteTest, spelled, spelling, folded, textsEqual, identifiersEqual, numbersEqual}
 
@@ -58,15 +61,15 @@ spelled-none digits names o n i h = rw (left-none names o n i)
 -- each kind of text
 pub spelling-identifier :
     (names : List ℕ) (o n : ℕ) {b : Bool} → 1 ≤ n → o + n ≤ length names → isLetter (getD names o 0) ≡ b
-    → spelling 1 (textAt names o n) ≡ b && spelled false (textAt names (o + 1) (n - 1))
+    → spelling identifierKind (textAt names o n) ≡ b && spelled false (textAt names (o + 1) (n - 1))
 unfolding spelling identifierText spelled byteTest
 spelling-identifier names o n h w e = rw (text-first names o n, identifierText, e)
 
-pub spelling-number : (l : List ℕ) → spelling 2 l ≡ spelled true l
+pub spelling-number : (l : List ℕ) → spelling numberKind l ≡ spelled true l
 unfolding spelling numberText spelled byteTest
 spelling-number l = refl
 
-pub spelling-variable : (kind : ℕ) (l : List ℕ) → (kind ≡ 1 → ⊥) → (kind ≡ 2 → ⊥) → spelling kind l ≡ spelled false l
+pub spelling-variable : (kind : ℕ) (l : List ℕ) → (kind ≡ identifierKind → ⊥) → (kind ≡ numberKind → ⊥) → spelling kind l ≡ spelled false l
 unfolding spelling variableText spelled byteTest
 spelling-variable zero l h k = refl
 spelling-variable (suc zero) l h k = absurd (h refl)
@@ -74,14 +77,21 @@ spelling-variable (suc (suc zero)) l h k = absurd (k refl)
 spelling-variable (suc (suc (suc j))) l h k = refl
 
 -- The rule of a text of a size within the bounds: out of the names, and within.
-module _ (test : List ℕ → Bool) (names : List ℕ) (o n : ℕ) (h : 1 ≤ n) (k : n ≤ 255) where
+module _ (test : List ℕ → Bool) (names : List ℕ) (o n : ℕ) (h : 1 ≤ n) (k : n ≤ textLimit) where
   pub rule-out : length names < o + n → textRule test names o n ≡ false
   unfolding textRule
-  rule-out w = simp (le-leb 1 n h, le-leb n 255 k, lt-leb _ _ w)
+  rule-out w = simp (le-leb 1 n h, le-leb n textLimit k, lt-leb _ _ w)
 
   pub rule-in : o + n ≤ length names → textRule test names o n ≡ test (textAt names o n)
   unfolding textRule
-  rule-in w = simp (le-leb 1 n h, le-leb n 255 k, le-leb _ _ w)
+  rule-in w = simp (le-leb 1 n h, le-leb n textLimit k, le-leb _ _ w)
+
+-- A text within its rule lies in the names.
+pub text-within : (test : List ℕ → Bool) (names : List ℕ) (o n : ℕ) → T (textRule test names o n) → o + n ≤ length names
+unfolding textRule
+text-within test names o n h =
+    let front = both-of (leb 1 n && leb n textLimit && leb (o + n) (length names)) (test (textAt names o n)) h .0 in
+    leb→le _ _ (both-of (leb 1 n && leb n textLimit) (leb (o + n) (length names)) front .1)
 
 -- ---- a byte as it is compared ----
 
@@ -100,22 +110,6 @@ pub lower-capital : (c : ℕ) → 65 ≤ c → c ≤ 90 → lower c ≡ c + 32
 lower-capital c h k = lower-by c true (simp (le-leb 65 c h, le-leb c 90 k))
 
 -- ---- when two texts are the same ----
-
--- A decision as a test: true, false, or that of another, from the facts.
-is-yes : {P : Type 0} (d : Dec P) → P → isYes d ≡ true
-unfolding isYes
-is-yes (yes p) h = refl
-is-yes (no n) h = absurd (n h)
-
-is-no : {P : Type 0} (d : Dec P) → (P → ⊥) → isYes d ≡ false
-unfolding isYes
-is-no (yes p) h = absurd (h p)
-is-no (no n) h = refl
-
-alike : {P Q : Type 0} (d : Dec P) (e : Dec Q) → (P → Q) → (Q → P) → isYes d ≡ isYes e
-unfolding isYes
-alike (yes p) e f g = sym (is-yes e (f p))
-alike (no n) e f g = sym (is-no e (λ q. n (g q)))
 
 -- What is left of two texts, where the next bytes compare the same, where they do not, and at the end.
 module _ (fold : Bool) (names : List ℕ) (o p n i : ℕ) where

@@ -14,7 +14,11 @@ byteTest false c = isNameByte c
 unfoldable pub spelled : Bool → List ℕ → Bool
 spelled digits l = every (byteTest digits) l
 
--- What a text of each kind must spell: 1 an identifier, 2 a number, any other kind a variable's name.
+-- The kind of text that is a variable's name.
+abbrev pub nameText : ℕ
+nameText = 3
+
+-- What a text of each kind must spell: an identifier (kind 1), a number (2), for any other kind a variable's name.
 unfoldable pub spelling : ℕ → List ℕ → Bool
 spelling zero l = variableText l
 spelling (suc zero) l = identifierText l

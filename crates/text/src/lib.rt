@@ -9,25 +9,25 @@ ghost use Rattle.text.specs.Texts.{byteTest, spelled, spelling, folded, 
 fn is_letter(c: u8) -> bool
     ensures { λ r. ⌜ r ≡ isLetter c ⌝ }
 {
-    if c < 65 {
+    if c < b'A' {
         return false;
     }
-    if c <= 90 {
+    if c <= b'Z' {
         return true;
     }
-    if c < 97 {
+    if c < b'a' {
         return false;
     }
-    c <= 122
+    c <= b'z'
 }
 
 fn is_digit(c: u8) -> bool
     ensures { λ r. ⌜ r ≡ isDigit c ⌝ }
 {
-    if c < 48 {
+    if c < b'0' {
         return false;
     }
-    c <= 57
+    c <= b'9'
 }
 
 // A letter, a digit, `-` or `_`.
@@ -40,10 +40,10 @@ fn is_name_byte(c: u8) -> bool
     if is_digit(c) {
         return true;
     }
-    if c == 45 {
+    if c == b'-' {
         return true;
     }
-    c == 95
+    c == b'_'
 }
 
 // A byte of a number's text, or of a name.
@@ -72,19 +72,25 @@ fn all_bytes(names: &[u8], digits: bool, o: usize, n: usize) -> bool
     true
 }
 
-// Whether the n bytes at o spell what a record of this kind asks: 1 an identifier, 2 a number, else a variable's name.
+// The kind of text that is a variable's name; kinds of terms are those of the other texts.
+pub const NAME: usize = 3;
+
+// The most bytes of a text.
+const TEXT_LIMIT: usize = 255;
+
+// Whether the n bytes at o spell what a record of this kind asks: an identifier, a number, else a variable's name.
 fn spells(names: &[u8], kind: usize, o: usize, n: usize) -> bool
     requires { ⌜ (1 ≤ n) × (o + n ≤ length (now names)) ⌝ }
     ensures { λ r. ⌜ r ≡ spelling kind (textAt (now (names .entry)) o n) ⌝ }
 {
-    if kind == 1 {
+    if kind == words::IDENTIFIER {
         let c = names[o];
         if !is_letter(c) {
             return false;
         }
         return all_bytes(names, false, o + 1, n - 1);
     }
-    if kind == 2 {
+    if kind == words::NUMBER {
         return all_bytes(names, true, o, n);
     }
     all_bytes(names, false, o, n)
@@ -97,7 +103,7 @@ pub fn text_ok(names: &[u8], kind: usize, o: usize, n: usize) -> bool
     if n < 1 {
         return false;
     }
-    if 255 < n {
+    if TEXT_LIMIT < n {
         return false;
     }
     if names.len() < n {
@@ -109,17 +115,20 @@ pub fn text_ok(names: &[u8], kind: usize, o: usize, n: usize) -> bool
     spells(names, kind, o, n)
 }
 
+// How far a small letter stands after its capital.
+const CASE: u8 = b'a' - b'A';
+
 // A byte with an ASCII capital lowered.
 pub fn lower(c: u8) -> u8
     ensures { λ r. ⌜ r ≡ lowered c ⌝ }
 {
-    if c < 65 {
+    if c < b'A' {
         return c;
     }
-    if 90 < c {
+    if b'Z' < c {
         return c;
     }
-    c + 32
+    c + CASE
 }
 
 fn fold_byte(fold: bool, c: u8) -> u8
@@ -134,7 +143,9 @@ fn fold_byte(fold: bool, c: u8) -> u8
 // Whether the n bytes at o and the n bytes at p are the same, or alike with ASCII case ignored.
 fn equal_bytes(names: &[u8], fold: bool, o: usize, p: usize, n: usize) -> bool
     requires { ⌜ (o + n ≤ length (now names)) × (p + n ≤ length (now names)) ⌝ }
-    ensures { λ r. ⌜ r ≡ textsEqual fold (textAt (now (names .entry)) o n) (textAt (now (names .entry)) p n) ⌝ }
+    ensures { λ r.
+        let text = textAt (now (names .entry)) in
+        ⌜ r ≡ textsEqual fold (text o n) (text p n) ⌝ }
 {
     let mut i = 0;
     while i < n {
@@ -151,7 +162,9 @@ fn equal_bytes(names: &[u8], fold: bool, o: usize, p: usize, n: usize) -> bool
 // Whether two identifiers are equal, given by offset and length: ASCII case is ignored.
 pub fn same_identifiers(names: &[u8], o: usize, n: usize, p: usize, m: usize) -> bool
     requires { ⌜ (o + n ≤ length (now names)) × (p + m ≤ length (now names)) ⌝ }
-    ensures { λ r. ⌜ r ≡ identifiersEqual (textAt (now (names .entry)) o n) (textAt (now (names .entry)) p m) ⌝ }
+    ensures { λ r.
+        let text = textAt (now (names .entry)) in
+        ⌜ r ≡ identifiersEqual (text o n) (text p m) ⌝ }
 {
     if n != m {
         return false;
@@ -162,7 +175,9 @@ pub fn same_identifiers(names: &[u8], o: usize, n: usize, p: usize, m: usize) ->
 // Whether two numbers are equal, given by offset and length: by text.
 pub fn same_numbers(names: &[u8], o: usize, n: usize, p: usize, m: usize) -> bool
     requires { ⌜ (o + n ≤ length (now names)) × (p + m ≤ length (now names)) ⌝ }
-    ensures { λ r. ⌜ r ≡ numbersEqual (textAt (now (names .entry)) o n) (textAt (now (names .entry)) p m) ⌝ }
+    ensures { λ r.
+        let text = textAt (now (names .entry)) in
+        ⌜ r ≡ numbersEqual (text o n) (text p m) ⌝ }
 {
     if n != m {
         return false;

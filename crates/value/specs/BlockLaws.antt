@@ -9,13 +9,14 @@ use native.Mathlib.Decide.{ℕ-discrete, decLt}
 use native.Mathlib.Nat.{suc-mul, mul-le-mul-right}
 use native.Mathlib.Omega.{arith}
 use Rattle.term_spec.specs.BoolLaws.{true-T}
+use Rattle.term_spec.specs.ListLaws.{zeros-at}
 use Rattle.term_spec.specs.Words.{decode, recordAt}
 use Rattle.term_spec.specs.WordsLaws.{decode-snoc, record-drop}
-use Rattle.term_spec.specs.Term.{Term, termLayout, depthK, deepest, termRule}
+use Rattle.term_spec.specs.Term.{Term, termLayout, bracketKind, depthLimit, depthK, deepest, termRule}
 use Rattle.term_spec.specs.TermLaws.{bracket-of}
 use Rattle.value.specs.Check.{runOf}
 use Rattle.value.specs.CheckLaws.{depth-bracket, depth-other}
-use Rattle.value.specs.Blocks.{Whole, Blocks, deepened, Filled, Tables}
+use Rattle.value.specs.Blocks.{lowBlock, highBlock, Whole, Blocks, deepened, Filled, Tables}
 
 -- ---- the deepest bracket of a run ----
 
@@ -31,7 +32,7 @@ deepest-snoc (u ∷ ts) t = omega (arith, deepest-snoc ts t)
 -- a run with one term more
 run-snoc : (w : List ℕ) (s i : ℕ) → runOf w s (suc i) ≡ runOf w s i ++ (recordAt termLayout w (s + i) ∷ [])
 unfolding runOf
-run-snoc w s i = decode-snoc termLayout i (drop (s * 4) w) ∙ ap (λ t. decode termLayout i (drop (s * 4) w) ++ (t ∷ [])) (record-drop termLayout s i w)
+run-snoc w s i = decode-snoc termLayout i (drop (s * termLayout .width) w) ∙ ap (λ t. decode termLayout i (drop (s * termLayout .width) w) ++ (t ∷ [])) (record-drop termLayout s i w)
 
 -- the depth of term i
 abbrev depthAt : List ℕ → ℕ → ℕ
@@ -79,14 +80,9 @@ pub deepened-more : (table : List ℕ) (k : ℕ) {d : ℕ} → getD table k 0 < 
 unfolding deepened
 deepened-more table k {d} h = let z : max (getD table k 0) d ≡ d = omega arith in rw z refl
 
-zeros : (n k : ℕ) → getD {A = ℕ} (replicate n 0) k 0 ≡ 0
-zeros zero k = refl
-zeros (suc n) zero = refl
-zeros (suc n) (suc k) = zeros n k
-
 filled-none : (w : List ℕ) (m n : ℕ) → Filled w m 0 (replicate n 0)
 unfolding Filled
-filled-none w m n k = let z : min m (0 - k * m) ≡ 0 = omega arith in zeros n k ∙ rw z (deepest-none w (k * m))
+filled-none w m n k = let z : min m (0 - k * m) ≡ 0 = omega arith in zeros-at n k ∙ rw z (deepest-none w (k * m))
 
 module _ (w : List ℕ) (m i j : ℕ) (table : List ℕ) (d : ℕ) (f : Filled w m i table) (low : j * m ≤ i) (high : i < j * m + m) where
   -- the block of term i has one term more, each other block has those that it had
@@ -123,25 +119,25 @@ filled-whole {w} {m} {i} f h = record {
 
 module _ (w : List ℕ) where
   pub tables-none : (n m : ℕ) → Tables w 0 (replicate n 0) (replicate m 0)
-  tables-none n m = record { lows = filled-none w 32 n; highs = filled-none w 1024 m }
+  tables-none n m = record { lows = filled-none w lowBlock n; highs = filled-none w highBlock m }
 
-  pub tables-blocks : {i : ℕ} {low high : List ℕ} → Tables w i low high → i ≤ length low * 32 → i ≤ length high * 1024 → Blocks w i low high
+  pub tables-blocks : {i : ℕ} {low high : List ℕ} → Tables w i low high → i ≤ length low * lowBlock → i ≤ length high * highBlock → Blocks w i low high
   tables-blocks f l h = record { lows = filled-whole (f .lows) l; highs = filled-whole (f .highs) h }
 
-  pub tables-more : {i : ℕ} {t : Term} {low high low' high' : List ℕ} → Tables w i low high → i < length low * 32 → i < length high * 1024 → t ≡ recordAt termLayout w i
-      → low' ≡ deepened low (i / 32) (depthK (t .kind) t) → high' ≡ deepened high (i / 1024) (depthK (t .kind) t) → Tables w (i + 1) low' high'
+  pub tables-more : {i : ℕ} {t : Term} {low high low' high' : List ℕ} → Tables w i low high → i < length low * lowBlock → i < length high * highBlock → t ≡ recordAt termLayout w i
+      → low' ≡ deepened low (i / lowBlock) (depthK (t .kind) t) → high' ≡ deepened high (i / highBlock) (depthK (t .kind) t) → Tables w (i + 1) low' high'
   tables-more {i} f l h e p q =
       let d = ap (λ u. depthK (u .kind) u) e in
       rw (p, q) (record {
-        lows = filled-more w 32 i (i / 32) _ _ (f .lows) (omega arith) (omega arith) (omega arith) d;
-        highs = filled-more w 1024 i (i / 1024) _ _ (f .highs) (omega arith) (omega arith) (omega arith) d;
+        lows = filled-more w lowBlock i (i / lowBlock) _ _ (f .lows) (omega arith) (omega arith) (omega arith) d;
+        highs = filled-more w highBlock i (i / highBlock) _ _ (f .highs) (omega arith) (omega arith) (omega arith) d;
       })
 
 -- a term that keeps the rule is at most 255 deep, so that a byte has its depth
-pub depth-small : (names : List ℕ) (below : List Term) (t : Term) → true ≡ termRule names below t → depthK (t .kind) t < 256
+pub depth-small : (names : List ℕ) (below : List Term) (t : Term) → true ≡ termRule names below t → depthK (t .kind) t ≤ depthLimit
 unfolding termRule
-depth-small names below t h = go (ℕ-discrete (t .kind) 3)
+depth-small names below t h = go (ℕ-discrete (t .kind) bracketKind)
   where
-    go : Dec (t .kind ≡ 3) → depthK (t .kind) t < 256
+    go : Dec (t .kind ≡ bracketKind) → depthK (t .kind) t ≤ depthLimit
     go (yes e) = omega (arith, depth-bracket (t .kind) t e, (bracket-of (t .kind) names below t e (true-T _ (sym h))) .shallow)
     go (no n) = omega (arith, depth-other (t .kind) t n)

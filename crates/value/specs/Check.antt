@@ -5,11 +5,12 @@ use lib.Dec.{leb}
 use lib.ListN.{length, drop}
 use Prim.Native.Nat.{ℕ, _*_, min}
 use Rattle.term_spec.specs.Words.{decode, count, whole}
+use Rattle.term_spec.specs.Refusal.{uneven, badTerm}
 use Rattle.term_spec.specs.Term.{Term, termLayout, limit, termsRule}
 
 -- The n terms from s on.
 unfoldable pub runOf : List ℕ → ℕ → ℕ → List Term
-runOf w s n = decode termLayout n (drop (s * 4) w)
+runOf w s n = decode termLayout n (drop (s * termLayout .width) w)
 
 -- A number, unless the test holds: then what comes next.
 unfoldable pub unless : Bool → ℕ → ℕ → ℕ
@@ -22,4 +23,4 @@ termsCounts names w used = whole termLayout w && leb (length names) limit && leb
 
 -- The first of 1 and 2 that applies, or 0.
 unfoldable pub termsNumber : List ℕ → List ℕ → ℕ → ℕ
-termsNumber names w used = unless (termsCounts names w used) 1 (unless (termsRule names [] (decode termLayout used w)) 2 0)
+termsNumber names w used = unless (termsCounts names w used) uneven (unless (termsRule names [] (decode termLayout used w)) badTerm 0)

@@ -12,17 +12,19 @@ use native.Mathlib.Omega.{arith}
 use Rattle.term_spec.specs.Words.{decode, recordAt, count, whole}
 use Rattle.term_spec.specs.WordsLaws.{decode-at, decode-length, decode-part, decode-snoc}
 use Rattle.term_spec.specs.Text.{textRule}
-use Rattle.term_spec.specs.Term.{Term, noTerm, termLayout, isScalar, depthK, deepest, bracketRule, symbolRule, termRuleK, termRule, termsRule}
+use Rattle.term_spec.specs.Refusal.{uneven, badTerm}
+use Rattle.term_spec.specs.Term.{Term, noTerm, termLayout, charKind, numberKind, bracketKind, unknownKind, expressionUnknown, limit, depthLimit}
+use Rattle.term_spec.specs.Term.{isScalar, depthK, deepest, bracketRule, symbolRule, termRuleK, termRule, termsRule}
 use Rattle.text.specs.Texts.{spelling}
 use Rattle.value.specs.Check.{runOf, unless, termsCounts, termsNumber}
 
 -- ---- depth ----
 
-pub depth-bracket : (k : ℕ) (t : Term) → k ≡ 3 → t .c ≡ depthK k t
+pub depth-bracket : (k : ℕ) (t : Term) → k ≡ bracketKind → t .c ≡ depthK k t
 unfolding depthK
 depth-bracket k t e = rw e refl
 
-pub depth-other : (k : ℕ) (t : Term) → (k ≡ 3 → ⊥) → 0 ≡ depthK k t
+pub depth-other : (k : ℕ) (t : Term) → (k ≡ bracketKind → ⊥) → 0 ≡ depthK k t
 unfolding depthK
 depth-other zero t h = refl
 depth-other (suc zero) t h = refl
@@ -39,34 +41,34 @@ module _ (w : List ℕ) (i : ℕ) (t : Term) where
 
   -- contents below it, of depth d: its own depth decides
   module _ (h : t .a + t .b ≤ i) {d : ℕ} (e : d ≡ deepest (runOf w (t .a) (t .b))) where
-    bracket-within : {b : Bool} → eqb (t .c) (suc d) ≡ b → bracketRule (decode termLayout i w) t ≡ b && leb (t .c) 255
+    bracket-within : {b : Bool} → eqb (t .c) (suc d) ≡ b → bracketRule (decode termLayout i w) t ≡ b && leb (t .c) depthLimit
     unfolding bracketRule runOf
     bracket-within q = rw (decode-length, le-leb (t .a + t .b) i h, decode-part termLayout i (t .a) (t .b) w h, ← e, q) refl
 
     pub bracket-wrong : (t .c ≡ suc d → ⊥) → false ≡ bracketRule (decode termLayout i w) t
     bracket-wrong n = sym (bracket-within (ne-eqb _ _ n))
 
-    pub bracket-exact : t .c ≡ suc d → leb (t .c) 255 ≡ bracketRule (decode termLayout i w) t
+    pub bracket-exact : t .c ≡ suc d → leb (t .c) depthLimit ≡ bracketRule (decode termLayout i w) t
     bracket-exact n = sym (bracket-within (eq-eqb _ _ n))
 
 -- ---- a symbol and a term, by kind ----
 
 module _ (names : List ℕ) where
-  pub symbol-char : (k a b c : ℕ) → k ≡ 0 → {s z : Bool} → isScalar a ≡ s → eqb b 0 ≡ z → symbolRule k names a b c ≡ s && z && eqb c 0
+  pub symbol-char : (k a b c : ℕ) → k ≡ charKind → {s z : Bool} → isScalar a ≡ s → eqb b 0 ≡ z → symbolRule k names a b c ≡ s && z && eqb c 0
   unfolding symbolRule
   symbol-char k a b c e p q = rw (e, p, q) refl
 
-  texts : (k a b c : ℕ) → (k ≡ 0 → ⊥) → k ≤ 2 → symbolRule k names a b c ≡ textRule (spelling k) names a b && eqb c 0
+  texts : (k a b c : ℕ) → (k ≡ charKind → ⊥) → k ≤ numberKind → symbolRule k names a b c ≡ textRule (spelling k) names a b && eqb c 0
   unfolding symbolRule textRule spelling
   texts zero a b c n h = absurd (n refl)
   texts (suc zero) a b c n h = refl
   texts (suc (suc zero)) a b c n h = refl
   texts (suc (suc (suc k))) a b c n h = absurd (omega arith)
 
-  pub symbol-text : (k a b c : ℕ) → (k ≡ 0 → ⊥) → k ≤ 2 → {s : Bool} → textRule (spelling k) names a b ≡ s → symbolRule k names a b c ≡ s && eqb c 0
+  pub symbol-text : (k a b c : ℕ) → (k ≡ charKind → ⊥) → k ≤ numberKind → {s : Bool} → textRule (spelling k) names a b ≡ s → symbolRule k names a b c ≡ s && eqb c 0
   symbol-text k a b c n h e = texts k a b c n h ∙ ap (_&& eqb c 0) e
 
-  pub symbol-none : (k a b c : ℕ) → 2 < k → symbolRule k names a b c ≡ false
+  pub symbol-none : (k a b c : ℕ) → numberKind < k → symbolRule k names a b c ≡ false
   unfolding symbolRule
   symbol-none zero a b c h = absurd (omega arith)
   symbol-none (suc zero) a b c h = absurd (omega arith)
@@ -74,14 +76,14 @@ module _ (names : List ℕ) where
   symbol-none (suc (suc (suc k))) a b c h = refl
 
 module _ (names : List ℕ) (below : List Term) where
-  symbols : (k : ℕ) (t : Term) → k < 3 → termRuleK k names below t ≡ symbolRule k names (t .a) (t .b) (t .c)
+  symbols : (k : ℕ) (t : Term) → k < bracketKind → termRuleK k names below t ≡ symbolRule k names (t .a) (t .b) (t .c)
   unfolding termRuleK
   symbols zero t h = refl
   symbols (suc zero) t h = refl
   symbols (suc (suc zero)) t h = refl
   symbols (suc (suc (suc k))) t h = absurd (omega arith)
 
-  others : (k : ℕ) (t : Term) → 4 < k → termRuleK k names below t ≡ false
+  others : (k : ℕ) (t : Term) → unknownKind < k → termRuleK k names below t ≡ false
   unfolding termRuleK
   others zero t h = absurd (omega arith)
   others (suc zero) t h = absurd (omega arith)
@@ -90,19 +92,19 @@ module _ (names : List ℕ) (below : List Term) where
   others (suc (suc (suc (suc zero)))) t h = absurd (omega arith)
   others (suc (suc (suc (suc (suc k))))) t h = refl
 
-  pub term-symbol : (t : Term) → t .kind < 3 → symbolRule (t .kind) names (t .a) (t .b) (t .c) ≡ termRule names below t
+  pub term-symbol : (t : Term) → t .kind < bracketKind → symbolRule (t .kind) names (t .a) (t .b) (t .c) ≡ termRule names below t
   unfolding termRule
   term-symbol t h = sym (symbols (t .kind) t h)
 
-  pub term-bracket : (t : Term) → t .kind ≡ 3 → bracketRule below t ≡ termRule names below t
+  pub term-bracket : (t : Term) → t .kind ≡ bracketKind → bracketRule below t ≡ termRule names below t
   unfolding termRule termRuleK
   term-bracket t e = rw e refl
 
-  pub term-unknown : (t : Term) → t .kind ≡ 4 → leb (t .a) 2 ≡ termRule names below t
+  pub term-unknown : (t : Term) → t .kind ≡ unknownKind → leb (t .a) expressionUnknown ≡ termRule names below t
   unfolding termRule termRuleK
   term-unknown t e = rw e refl
 
-  pub term-none : (t : Term) → 4 < t .kind → false ≡ termRule names below t
+  pub term-none : (t : Term) → unknownKind < t .kind → false ≡ termRule names below t
   unfolding termRule
   term-none t h = sym (others (t .kind) t h)
 
@@ -136,27 +138,27 @@ module _ (names w : List ℕ) (used : ℕ) where
 -- ---- a store's number ----
 
 module _ (names w : List ℕ) (used : ℕ) where
-  number-uneven : termsCounts names w used ≡ false → 1 ≡ termsNumber names w used
+  number-uneven : termsCounts names w used ≡ false → uneven ≡ termsNumber names w used
   unfolding termsNumber unless
   number-uneven e = rw e refl
 
-  pub number-whole : (length w % 4 ≡ 0 → ⊥) → 1 ≡ termsNumber names w used
+  pub number-whole : (length w % termLayout .width ≡ 0 → ⊥) → uneven ≡ termsNumber names w used
   unfolding termsCounts whole
   number-whole n = number-uneven (simp (ne-eqb _ _ n))
 
-  pub number-names : length w % 4 ≡ 0 → 65536 < length names → 1 ≡ termsNumber names w used
+  pub number-names : length w % termLayout .width ≡ 0 → limit < length names → uneven ≡ termsNumber names w used
   unfolding termsCounts whole
   number-names e n = number-uneven (simp (eq-eqb _ _ e, lt-leb _ _ n))
 
-  pub number-used : length w % 4 ≡ 0 → length names ≤ 65536 → min (length w / 4) 65536 < used → 1 ≡ termsNumber names w used
+  pub number-used : length w % termLayout .width ≡ 0 → length names ≤ limit → min (length w / termLayout .width) limit < used → uneven ≡ termsNumber names w used
   unfolding termsCounts whole count
   number-used e m n = number-uneven (simp (eq-eqb _ _ e, le-leb _ _ m, lt-leb _ _ n))
 
-  counts : length w % 4 ≡ 0 → length names ≤ 65536 → used ≤ min (length w / 4) 65536 → termsCounts names w used ≡ true
+  counts : length w % termLayout .width ≡ 0 → length names ≤ limit → used ≤ min (length w / termLayout .width) limit → termsCounts names w used ≡ true
   unfolding termsCounts whole count
   counts e m n = simp (eq-eqb _ _ e, le-leb _ _ m, le-leb _ _ n)
 
-  pub number-terms : length w % 4 ≡ 0 → length names ≤ 65536 → used ≤ min (length w / 4) 65536 → {b : Bool} → b ≡ termsRule names [] (decode termLayout used w)
-      → unless b 2 0 ≡ termsNumber names w used
+  pub number-terms : length w % termLayout .width ≡ 0 → length names ≤ limit → used ≤ min (length w / termLayout .width) limit → {b : Bool} → b ≡ termsRule names [] (decode termLayout used w)
+      → unless b badTerm 0 ≡ termsNumber names w used
   unfolding termsNumber unless
   number-terms e m n q = rw (counts e m n, q) refl

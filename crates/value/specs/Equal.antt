@@ -3,14 +3,14 @@ use mathlib.Core.List.{List, []}
 use mathlib.Core.Bool.{Bool}
 use lib.Dec.{T}
 use lib.ListN.{length, getD}
-use Prim.Native.Nat.{ℕ, suc, zero, _+_, _*_, _≤_}
-use Rattle.term_spec.specs.Words.{decode}
+use Prim.Native.Nat.{ℕ, suc, zero, _+_, _≤_}
+use Rattle.term_spec.specs.Words.{Lies, decode}
 use Rattle.term_spec.specs.Term.{Term, termLayout, part, termsRule}
 use Rattle.term_spec.specs.Value.{Value, char, valueOf, values, canon, forms, same?, sames?, isYes}
 
 -- A store whose used terms are there and within their rules.
-pub record Store (names w : List ℕ) (used : ℕ) : Type 0 where
-  pub fits : used * 4 ≤ length w
+pub record TermStore (names w : List ℕ) (used : ℕ) : Type 0 where
+  pub fits : Lies termLayout w used
   pub good : T (termsRule names [] (decode termLayout used w))
 
 -- The text of an identifier or a number lies in the names.

@@ -5,28 +5,31 @@ use mathlib.Core.Bool.{Bool, true, false, _&&_, _||_}
 use borrow.Author.Tests.{eq-eqb, ne-eqb}
 use lib.Dec.{T, leb, eqb, leb→le, eqb→eq, eqb·suc-zero}
 use lib.ListN.{length, getD, take, drop, length-map}
-use lib.Seq.{drop-cons, getD-take, getD-drop}
-use Prim.Native.Nat.{ℕ, suc, zero, _+_, _-_, _<_, _≤_, min}
+use lib.Seq.{drop-cons}
+use Prim.Native.Nat.{ℕ, suc, zero, _+_, _*_, _-_, _<_, _≤_, min}
 use native.Mathlib.Nat.{add-zero, sub-zero}
 use native.Mathlib.Omega.{arith}
 use Rattle.term_spec.specs.BoolLaws.{both-of, and-of, eq→eqb}
 use Rattle.term_spec.specs.ListLaws.{part-below, part-length}
 use Rattle.term_spec.specs.Words.{decode, recordAt, count, whole}
-use Rattle.term_spec.specs.WordsLaws.{term-lays, count-fits, decode-length, decode-at, decode-below}
+use Rattle.term_spec.specs.WordsLaws.{term-lays, count-fits, decode-length, decode-at, decode-below, decode-part, record-drop}
 use Rattle.term_spec.specs.Text.{identifierText, numberText, textAt, textRule}
-use Rattle.term_spec.specs.Term.{Term, termLayout, noTerm, part, contentsRun, depthK, deepest, limit, symbolRule, termRuleK, termRule, termsRule}
+use Rattle.term_spec.specs.Refusal.{uneven, badTerm}
+use Rattle.term_spec.specs.Term.{Term, termLayout, noTerm, part, charKind, identifierKind, numberKind, bracketKind, unknownKind, limit}
+use Rattle.term_spec.specs.Term.{contentsRun, depthK, deepest, symbolRule, termRuleK, termRule, termsRule}
 use Rattle.term_spec.specs.TermLaws.{BracketFacts, bracket-of, term-at, values-length}
 use Rattle.term_spec.specs.TableLaws.{table-at}
 use Rattle.term_spec.specs.Value.{Value, char, unknown, bracketed, valueK, valueOf, values, canon, forms, column, unknownColumn, heads?, list?, same?, sames?, isYes}
 use Rattle.term_spec.specs.ValueLaws.{canon-bracketed, equal-brackets, equal-columns, is-yes, is-no, alike}
 use Rattle.text.specs.Texts.{identifiersEqual, numbersEqual}
-use Rattle.value.specs.Check.{unless, termsCounts, termsNumber}
+use Rattle.text.specs.TextLaws.{text-within}
+use Rattle.value.specs.Check.{runOf, unless, termsCounts, termsNumber}
 use Rattle.value.specs.CheckLaws.{depth-bracket}
-use Rattle.value.specs.Equal.{Store, InNames, Texts, equalSymbols, valuesIn, equalAt, equalRuns}
+use Rattle.value.specs.Equal.{TermStore, InNames, Texts, equalSymbols, valuesIn, equalAt, equalRuns}
 
 -- ---- kinds ----
 
-unknown-above : (a : ℕ) → 4 ≤ unknownColumn a
+unknown-above : (a : ℕ) → unknownKind ≤ unknownColumn a
 unfolding unknownColumn
 unknown-above zero = omega arith
 unknown-above (suc zero) = omega arith
@@ -34,7 +37,7 @@ unknown-above (suc (suc zero)) = omega arith
 unknown-above (suc (suc (suc a))) = omega arith
 
 -- A kind shows in its value: its column, those from 4 on being of unknowns.
-kind-column : (k : ℕ) (text : List ℕ) (t : Term) (below : List Value) → min k 4 ≡ min (column (valueK k text t below)) 4
+kind-column : (k : ℕ) (text : List ℕ) (t : Term) (below : List Value) → min k unknownKind ≡ min (column (valueK k text t below)) unknownKind
 unfolding valueK column bracketed
 kind-column zero text t below = refl
 kind-column (suc zero) text t below = refl
@@ -43,11 +46,11 @@ kind-column (suc (suc (suc zero))) text t below = refl
 kind-column (suc (suc (suc (suc k)))) text t below = omega (arith, unknown-above (t .a))
 
 -- Values of different kinds are never equal.
-pub values-differ : (names : List ℕ) (t u : Term) (x y : List Value) → (min (t .kind) 4 ≡ min (u .kind) 4 → ⊥)
+pub values-differ : (names : List ℕ) (t u : Term) (x y : List Value) → (min (t .kind) unknownKind ≡ min (u .kind) unknownKind → ⊥)
     → isYes (same? (canon (valueOf names t x)) (canon (valueOf names u y))) ≡ false
 unfolding valueOf
 values-differ names t u x y h =
-    is-no _ (λ q. h (kind-column (t .kind) _ t x ∙ ap (λ z. min z 4) (equal-columns _ _ q) ∙ sym (kind-column (u .kind) _ u y)))
+    is-no _ (λ q. h (kind-column (t .kind) _ t x ∙ ap (λ z. min z unknownKind) (equal-columns _ _ q) ∙ sym (kind-column (u .kind) _ u y)))
 
 -- ---- symbols ----
 
@@ -58,7 +61,7 @@ decides d false f g = is-no d f
 unknowns : {a b c x y z : ℕ} → a ≡ x → b ≡ y → c ≡ z → unknown a b c ≡ unknown x y z
 unknowns p q r i = unknown (p i) (q i) (r i)
 
-text-lies : (k : ℕ) (names : List ℕ) (t : Term) → 1 ≤ k → k ≤ 2 → InNames k names t → t .a + t .b ≤ length names
+text-lies : (k : ℕ) (names : List ℕ) (t : Term) → identifierKind ≤ k → k ≤ numberKind → InNames k names t → t .a + t .b ≤ length names
 unfolding InNames
 text-lies zero names t l h i = absurd (omega arith)
 text-lies (suc zero) names t l h i = i
@@ -66,26 +69,26 @@ text-lies (suc (suc zero)) names t l h i = i
 text-lies (suc (suc (suc k))) names t l h i = absurd (omega arith)
 
 module _ (names : List ℕ) (t u : Term) where
-  pub texts-lie : Texts names t u → t .kind ≡ u .kind → 1 ≤ t .kind → t .kind ≤ 2 → (t .a + t .b ≤ length names) × (u .a + u .b ≤ length names)
+  pub texts-lie : Texts names t u → t .kind ≡ u .kind → identifierKind ≤ t .kind → t .kind ≤ numberKind → (t .a + t .b ≤ length names) × (u .a + u .b ≤ length names)
   texts-lie x e l h = (text-lies (t .kind) names t l h (x .left), text-lies (u .kind) names u (omega arith) (omega arith) (x .right))
 
-  pub symbols-differ : t .kind < 3 → (t .kind ≡ u .kind → ⊥) → false ≡ equalSymbols names t u
+  pub symbols-differ : t .kind < bracketKind → (t .kind ≡ u .kind → ⊥) → false ≡ equalSymbols names t u
   unfolding equalSymbols
   symbols-differ h n = sym (values-differ names t u [] [] (λ q. n (omega arith)))
 
-  pub symbols-identifiers : t .kind ≡ 1 → t .kind ≡ u .kind → identifiersEqual (textAt names (t .a) (t .b)) (textAt names (u .a) (u .b)) ≡ equalSymbols names t u
+  pub symbols-identifiers : t .kind ≡ identifierKind → t .kind ≡ u .kind → identifiersEqual (textAt names (t .a) (t .b)) (textAt names (u .a) (u .b)) ≡ equalSymbols names t u
   unfolding equalSymbols identifiersEqual valueOf valueK
   symbols-identifiers e f = rw (← f, e)
 
-  pub symbols-numbers : t .kind ≡ 2 → t .kind ≡ u .kind → numbersEqual (textAt names (t .a) (t .b)) (textAt names (u .a) (u .b)) ≡ equalSymbols names t u
+  pub symbols-numbers : t .kind ≡ numberKind → t .kind ≡ u .kind → numbersEqual (textAt names (t .a) (t .b)) (textAt names (u .a) (u .b)) ≡ equalSymbols names t u
   unfolding equalSymbols numbersEqual valueOf valueK
   symbols-numbers e f = rw (← f, e)
 
   -- Chars and unknowns: by value; by kind, level and index.
-  module _ (same : t .kind ≡ u .kind) (n₁ : t .kind ≡ 1 → ⊥) (n₂ : t .kind ≡ 2 → ⊥) (n₃ : t .kind ≡ 3 → ⊥) where
+  module _ (same : t .kind ≡ u .kind) (n₁ : t .kind ≡ identifierKind → ⊥) (n₂ : t .kind ≡ numberKind → ⊥) (n₃ : t .kind ≡ bracketKind → ⊥) where
     by-kind : (k : ℕ) → k ≡ t .kind
         → isYes (same? (canon (valueK k (textAt names (t .a) (t .b)) t [])) (canon (valueK k (textAt names (u .a) (u .b)) u [])))
-        ≡ eqb (t .a) (u .a) && (eqb k 0 || eqb (t .b) (u .b) && eqb (t .c) (u .c))
+        ≡ eqb (t .a) (u .a) && (eqb k charKind || eqb (t .b) (u .b) && eqb (t .c) (u .c))
     unfolding valueK canon
     by-kind zero e =
         decides _ _ (λ q. and-of (eqb (t .a) (u .a)) true (eq→eqb (t .a) (u .a) (cc)) tt) (λ h. ap char (eqb→eq _ _ (both-of (eqb (t .a) (u .a)) true h .0)))
@@ -103,7 +106,7 @@ module _ (names : List ℕ) (t u : Term) where
         let (y, z) = both-of (eqb (t .b) (u .b)) (eqb (t .c) (u .c)) yz in
         unknowns (eqb→eq _ _ x) (eqb→eq _ _ y) (eqb→eq _ _ z)))
 
-    symbols-other : equalSymbols names t u ≡ eqb (t .a) (u .a) && (eqb (t .kind) 0 || eqb (t .b) (u .b) && eqb (t .c) (u .c))
+    symbols-other : equalSymbols names t u ≡ eqb (t .a) (u .a) && (eqb (t .kind) charKind || eqb (t .b) (u .b) && eqb (t .c) (u .c))
     unfolding equalSymbols valueOf
     symbols-other =
         ap (λ k. isYes (same? (canon (valueOf names t [])) (canon (valueK k (textAt names (u .a) (u .b)) u [])))) (sym same)
@@ -112,15 +115,15 @@ module _ (names : List ℕ) (t u : Term) where
     pub symbols-apart : (t .a ≡ u .a → ⊥) → false ≡ equalSymbols names t u
     symbols-apart n = sym (symbols-other ∙ rw (ne-eqb (t .a) (u .a) n) refl)
 
-    pub symbols-chars : t .kind ≡ 0 → t .a ≡ u .a → true ≡ equalSymbols names t u
-    symbols-chars z e = sym (symbols-other ∙ rw (eq-eqb (t .a) (u .a) e, eq-eqb (t .kind) 0 z) refl)
+    pub symbols-chars : t .kind ≡ charKind → t .a ≡ u .a → true ≡ equalSymbols names t u
+    symbols-chars z e = sym (symbols-other ∙ rw (eq-eqb (t .a) (u .a) e, eq-eqb (t .kind) charKind z) refl)
 
-    module _ (n₀ : t .kind ≡ 0 → ⊥) (e : t .a ≡ u .a) where
+    module _ (n₀ : t .kind ≡ charKind → ⊥) (e : t .a ≡ u .a) where
       pub symbols-levels : (t .b ≡ u .b → ⊥) → false ≡ equalSymbols names t u
-      symbols-levels n = sym (symbols-other ∙ rw (eq-eqb (t .a) (u .a) e, ne-eqb (t .kind) 0 n₀, ne-eqb (t .b) (u .b) n) refl)
+      symbols-levels n = sym (symbols-other ∙ rw (eq-eqb (t .a) (u .a) e, ne-eqb (t .kind) charKind n₀, ne-eqb (t .b) (u .b) n) refl)
 
       pub symbols-indices : t .b ≡ u .b → eqb (t .c) (u .c) ≡ equalSymbols names t u
-      symbols-indices f = sym (symbols-other ∙ rw (eq-eqb (t .a) (u .a) e, ne-eqb (t .kind) 0 n₀, eq-eqb (t .b) (u .b) f) refl)
+      symbols-indices f = sym (symbols-other ∙ rw (eq-eqb (t .a) (u .a) e, ne-eqb (t .kind) charKind n₀, eq-eqb (t .b) (u .b) f) refl)
 
 -- Two lists with first entries: equal by these and the rest.
 heads-yes : {A : Type 0} {x y : A} {xs ys : List A} (d : Dec (x ≡ y)) (e : Dec (xs ≡ ys)) → isYes (heads? d e) ≡ isYes d && isYes e
@@ -132,7 +135,7 @@ heads-yes (no n) q = refl
 -- ---- a store within its rules ----
 
 -- What the rule of a term says by its kind: no kind past 4, a text in the names.
-kind-low : (k : ℕ) (names : List ℕ) (below : List Term) (t : Term) → T (termRuleK k names below t) → k ≤ 4
+kind-low : (k : ℕ) (names : List ℕ) (below : List Term) (t : Term) → T (termRuleK k names below t) → k ≤ unknownKind
 unfolding termRuleK
 kind-low zero names below t h = omega arith
 kind-low (suc zero) names below t h = omega arith
@@ -141,18 +144,11 @@ kind-low (suc (suc (suc zero))) names below t h = omega arith
 kind-low (suc (suc (suc (suc zero)))) names below t h = omega arith
 kind-low (suc (suc (suc (suc (suc k))))) names below t h = absurd h
 
-text-in : (test : List ℕ → Bool) (names : List ℕ) (o n c : ℕ) → T (textRule test names o n && eqb c 0) → o + n ≤ length names
-unfolding textRule
-text-in test names o n c h =
-    let r = both-of (leb 1 n && leb n 255 && leb (o + n) (length names) && test (textAt names o n)) (eqb c 0) h .0 in
-    let l = both-of (leb 1 n && leb n 255 && leb (o + n) (length names)) (test (textAt names o n)) r .0 in
-    leb→le _ _ (both-of (leb 1 n && leb n 255) (leb (o + n) (length names)) l .1)
-
 pub in-names : (k : ℕ) (names : List ℕ) (below : List Term) (t : Term) → T (termRuleK k names below t) → InNames k names t
 unfolding termRuleK symbolRule InNames
 in-names zero names below t h = tt
-in-names (suc zero) names below t h = text-in identifierText names (t .a) (t .b) (t .c) h
-in-names (suc (suc zero)) names below t h = text-in numberText names (t .a) (t .b) (t .c) h
+in-names (suc zero) names below t h = text-within identifierText names (t .a) (t .b) (both-of (textRule identifierText names (t .a) (t .b)) _ h .0)
+in-names (suc (suc zero)) names below t h = text-within numberText names (t .a) (t .b) (both-of (textRule numberText names (t .a) (t .b)) _ h .0)
 in-names (suc (suc (suc k))) names below t h = tt
 
 depth-in : (ts : List Term) (k : ℕ) → k < length ts → depthK (getD ts k noTerm .kind) (getD ts k noTerm) ≤ deepest ts
@@ -162,7 +158,7 @@ depth-in (t ∷ ts) zero h = omega arith
 depth-in (t ∷ ts) (suc k) h = omega (arith, depth-in ts k (omega arith))
 
 -- A value that is no bracket's does not look below.
-pub value-alone : (k : ℕ) (text : List ℕ) (t : Term) (below : List Value) → (k ≡ 3 → ⊥) → valueK k text t below ≡ valueK k text t []
+pub value-alone : (k : ℕ) (text : List ℕ) (t : Term) (below : List Value) → (k ≡ bracketKind → ⊥) → valueK k text t below ≡ valueK k text t []
 unfolding valueK
 value-alone zero text t below h = refl
 value-alone (suc zero) text t below h = refl
@@ -170,12 +166,12 @@ value-alone (suc (suc zero)) text t below h = refl
 value-alone (suc (suc (suc zero))) text t below h = absurd (h refl)
 value-alone (suc (suc (suc (suc k)))) text t below h = refl
 
-value-bracket : (k : ℕ) (text : List ℕ) (t : Term) (below : List Value) → k ≡ 3 → valueK k text t below ≡ bracketed (part below (contentsRun t))
+value-bracket : (k : ℕ) (text : List ℕ) (t : Term) (below : List Value) → k ≡ bracketKind → valueK k text t below ≡ bracketed (part below (contentsRun t))
 unfolding valueK
 value-bracket k text t below e = rw e
 
 -- A store that neither 1 nor 2 refuses.
-within-rules : (a b : Bool) → unless a 1 (unless b 2 0) ≡ 0 → T a × T b
+within-rules : (a b : Bool) → unless a uneven (unless b badTerm 0) ≡ 0 → T a × T b
 unfolding unless
 within-rules true true e = (tt, tt)
 within-rules true false e = absurd (omega arith)
@@ -185,16 +181,15 @@ within-rules false b e = absurd (omega arith)
 unfoldable pub depthAt : List ℕ → ℕ → ℕ
 depthAt w i = depthK (recordAt termLayout w i .kind) (recordAt termLayout w i)
 
-unfoldable pub deepestIn : List ℕ → ℕ → ℕ → ℕ → ℕ
-deepestIn w used s n = deepest (part (decode termLayout used w) (record { start = s; len = n }))
+unfoldable pub deepestIn : List ℕ → ℕ → ℕ → ℕ
+deepestIn w s n = deepest (runOf w s n)
 
-pub depth-inside : (w : List ℕ) (used s n k : ℕ) → k < n → s + n ≤ used → depthAt w (s + k) ≤ deepestIn w used s n
-unfolding depthAt deepestIn
-depth-inside w used s n k lt h =
-    let ts = decode termLayout used w in
-    let e : getD (take n (drop s ts)) k noTerm ≡ recordAt termLayout w (s + k)
-    = getD-take n (drop s ts) k noTerm lt ∙ getD-drop s ts k noTerm ∙ decode-at termLayout used (s + k) w noTerm (omega arith) in
-    rw e at (depth-in (take n (drop s ts)) k (omega (arith, part-length ts s n (omega (arith, decode-length termLayout used w)))))
+pub depth-inside : (w : List ℕ) (s n k : ℕ) → k < n → depthAt w (s + k) ≤ deepestIn w s n
+unfolding depthAt deepestIn runOf
+depth-inside w s n k lt =
+    let l = drop (s * termLayout .width) w in
+    let e : getD (decode termLayout n l) k noTerm ≡ recordAt termLayout w (s + k) = decode-at termLayout n k l noTerm lt ∙ record-drop termLayout s k w in
+    rw e at (depth-in (decode termLayout n l) k (omega (arith, decode-length termLayout n l)))
 
 module _ (names w : List ℕ) (used : ℕ) where
   values-size : length (valuesIn names w used) ≡ used
@@ -207,7 +202,7 @@ module _ (names w : List ℕ) (used : ℕ) where
       table-at (valueOf names) (decode termLayout used w) [] i i noTerm (char 0) (omega (arith, decode-length termLayout used w)) (omega arith)
       ∙ ap (λ z. valueOf names z (take i (valuesIn names w used))) (decode-at termLayout used i w noTerm lt ∙ sym e)
 
-  module _ (store : Store names w used) where
+  module _ (store : TermStore names w used) where
     rule-at : (i : ℕ) (t : Term) → i < used → t ≡ recordAt termLayout w i → T (termRuleK (t .kind) names (decode termLayout i w) t)
     unfolding termRule
     rule-at i t lt e =
@@ -218,20 +213,18 @@ module _ (names w : List ℕ) (used : ℕ) where
     pub texts-at : (i j : ℕ) (t u : Term) → i < used → j < used → t ≡ recordAt termLayout w i → u ≡ recordAt termLayout w j → Texts names t u
     texts-at i j t u x y e f = record { left = in-names (t .kind) names _ t (rule-at i t x e); right = in-names (u .kind) names _ u (rule-at j u y f) }
 
-    module _ (i : ℕ) (t : Term) (lt : i < used) (e : t ≡ recordAt termLayout w i) (b : t .kind ≡ 3) where
+    module _ (i : ℕ) (t : Term) (lt : i < used) (e : t ≡ recordAt termLayout w i) (b : t .kind ≡ bracketKind) where
       facts : BracketFacts (decode termLayout i w) t
       facts = bracket-of (t .kind) names (decode termLayout i w) t b (rule-at i t lt e)
 
       pub contents-below : t .a + t .b ≤ i
       contents-below = omega (arith, facts .inside, decode-length termLayout i w)
 
-      pub contents-shallow : depthAt w i ≡ suc (deepestIn w used (t .a) (t .b))
-      unfolding depthAt deepestIn
+      pub contents-shallow : depthAt w i ≡ suc (deepestIn w (t .a) (t .b))
+      unfolding depthAt deepestIn runOf
       contents-shallow =
-          let p : part (decode termLayout i w) (contentsRun t) ≡ part (decode termLayout used w) (contentsRun t)
-          = ap (λ z. part z (contentsRun t)) (sym (decode-below termLayout used i w (omega arith)))
-          ∙ part-below (decode termLayout used w) (t .a) (t .b) i contents-below in
-          rw (← e) (sym (depth-bracket (t .kind) t b) ∙ facts .depth ∙ ap (λ z. suc (deepest z)) p)
+          rw (← e)
+          (sym (depth-bracket (t .kind) t b) ∙ facts .depth ∙ ap (λ z. suc (deepest z)) (decode-part termLayout i (t .a) (t .b) w contents-below))
 
       value-held : getD (valuesIn names w used) i (char 0) ≡ bracketed (part (valuesIn names w used) (contentsRun t))
       unfolding valueOf
@@ -250,13 +243,13 @@ module _ (names w : List ℕ) (used : ℕ) where
           let q = kind-low (u .kind) names _ u (rule-at j u y f) in
           rw (value-at i t x e, value-at j u y f) (sym (values-differ names t u _ _ (λ z. n (omega arith))))
 
-      pub at-symbols : t .kind ≡ u .kind → (t .kind ≡ 3 → ⊥) → equalSymbols names t u ≡ equalAt names w used i j
+      pub at-symbols : t .kind ≡ u .kind → (t .kind ≡ bracketKind → ⊥) → equalSymbols names t u ≡ equalAt names w used i j
       unfolding equalAt equalSymbols valueOf
       at-symbols s n =
           rw (value-at i t x e, value-at j u y f)
           (sym (ap₂ (λ v z. isYes (same? (canon v) (canon z))) (value-alone (t .kind) _ t _ n) (value-alone (u .kind) _ u _ (λ q. n (s ∙ q)))))
 
-      pub at-brackets : t .kind ≡ 3 → t .kind ≡ u .kind → equalRuns names w used (t .a) (t .b) (u .a) (u .b) ≡ equalAt names w used i j
+      pub at-brackets : t .kind ≡ bracketKind → t .kind ≡ u .kind → equalRuns names w used (t .a) (t .b) (u .a) (u .b) ≡ equalAt names w used i j
       unfolding equalAt equalRuns
       at-brackets b s =
           rw (value-held i t x e b, value-held j u y f (sym s ∙ b))
@@ -315,5 +308,5 @@ module _ (names w : List ℕ) (used : ℕ) where
     pub store-few : used ≤ limit
     store-few = omega (arith, counted)
 
-    pub store-of : Store names w used
+    pub store-of : TermStore names w used
     store-of = record { fits = count-fits termLayout term-lays w used (omega (arith, counted)); good = within .1 }

@@ -1,36 +1,45 @@
 // Terms in code: the rules of a term store, equality of symbols, literals against terms. From value.rs (`Value`, equality) and matcher.rs
 // (`symbol_matches`); records and their rules are the port's. Equality of terms and runs is in crate equality.
 use words::Term;
+use words::refusal;
 ghost use mathlib.Core.Path.{_≡_};
 ghost use mathlib.Core.List.{[]};
 ghost use Prim.Native.Nat.{_+_, _*_, _/_, _<_, _≤_, max};
 ghost use lib.ListN.{length};
-ghost use Rattle.term_spec.specs.Words.{decode};
-ghost use Rattle.term_spec.specs.Term.{termLayout, isScalar, depthK, deepest as deepestOf, bracketRule, symbolRule, termRule, termsRule};
+ghost use Rattle.term_spec.specs.Words.{Lies, decode};
+ghost use Rattle.term_spec.specs.Term.{termLayout, bracketKind, limit, depthLimit, isScalar, depthK, deepest as deepestOf};
+ghost use Rattle.term_spec.specs.Term.{bracketRule, symbolRule, termRule, termsRule};
 ghost use Rattle.words.specs.Records.{asTerm};
 ghost use Rattle.value.specs.Check.{runOf, termsNumber};
-ghost use Rattle.value.specs.Blocks.{Blocks, deepened, Tables};
+ghost use Rattle.value.specs.Blocks.{lowBlock, highBlock, Covers, Blocks, deepened, Tables};
 ghost use Rattle.value.specs.Equal.{Texts, equalSymbols};
 
 // ---- the rules of a term store ----
 
+// Unicode's scalar values: those before the surrogates, and those after them.
+const SURROGATES: usize = 0xD800;
+
+const AFTER_SURROGATES: usize = 0xE000;
+
+const LAST_SCALAR: usize = 0x10FFFF;
+
 fn is_scalar(c: usize) -> bool
     ensures { λ r. ⌜ r ≡ isScalar c ⌝ }
 {
-    if c < 55296 {
+    if c < SURROGATES {
         return true;
     }
-    if c < 57344 {
+    if c < AFTER_SURROGATES {
         return false;
     }
-    c <= 1114111
+    c <= LAST_SCALAR
 }
 
 // The rule of a literal symbol: Char, Identifier or Number.
 pub fn symbol_ok(names: &[u8], t: Term) -> bool
     ensures { λ r. ⌜ r ≡ symbolRule (t .kind) (now (names .entry)) (t .a) (t .b) (t .c) ⌝ }
 {
-    if t.kind == 0 {
+    if t.kind == words::CHAR {
         if !is_scalar(t.a) {
             return false;
         }
@@ -39,7 +48,7 @@ pub fn symbol_ok(names: &[u8], t: Term) -> bool
         }
         return t.c == 0;
     }
-    if 2 < t.kind {
+    if words::NUMBER < t.kind {
         return false;
     }
     if !text::text_ok(names, t.kind, t.a, t.b) {
@@ -52,7 +61,7 @@ pub fn symbol_ok(names: &[u8], t: Term) -> bool
 fn depth_of(t: Term) -> usize
     ensures { λ r. ⌜ r ≡ depthK (t .kind) (asTerm t) ⌝ }
 {
-    if t.kind == 3 {
+    if t.kind == words::BRACKET {
         return t.c;
     }
     0
@@ -69,6 +78,9 @@ fn larger(a: usize, b: usize) -> usize
 
 // Tables have the deepest bracket of each block of terms, so that a bracket's contents are not read term by term: `low` has it for
 // blocks of 32, `high` for blocks of 1,024. A bracket costs fewer than 190 reads.
+const LOW_BLOCK: usize = 32;
+
+const HIGH_BLOCK: usize = 1024;
 
 fn wide(x: u8) -> usize
     ensures { λ r. ⌜ r ≡ x ⌝ }
@@ -78,7 +90,7 @@ fn wide(x: u8) -> usize
 
 // Entry k of a table becomes d where d is deeper.
 fn deepen(table: &mut [u8], k: usize, d: usize)
-    requires { ⌜ (k < length (now table)) × (d < 256) ⌝ }
+    requires { ⌜ (k < length (now table)) × (d ≤ depthLimit) ⌝ }
     ensures { λ _. ⌜ now (table .exit) ≡ deepened (now (table .entry)) k d ⌝ }
 {
     if wide(table[k]) < d {
@@ -88,15 +100,15 @@ fn deepen(table: &mut [u8], k: usize, d: usize)
 
 // Term i goes into the tables: its depth counts in its low and its high block. Only a bracket has one.
 fn enter(low: &mut [u8], high: &mut [u8], i: usize, t: Term)
-    requires { ⌜ (i < length (now low) * 32) × (i < length (now high) * 1024) × (depthK (t .kind) (asTerm t) < 256) ⌝ }
-    ensures { λ _. ⌜ now (low .exit) ≡ deepened (now (low .entry)) (i / 32) (depthK (t .kind) (asTerm t)) ⌝ }
-    ensures { λ _. ⌜ now (high .exit) ≡ deepened (now (high .entry)) (i / 1024) (depthK (t .kind) (asTerm t)) ⌝ }
+    requires { ⌜ (i < length (now low) * lowBlock) × (i < length (now high) * highBlock) × (depthK (t .kind) (asTerm t) ≤ depthLimit) ⌝ }
+    ensures { λ _. ⌜ now (low .exit) ≡ deepened (now (low .entry)) (i / lowBlock) (depthK (t .kind) (asTerm t)) ⌝ }
+    ensures { λ _. ⌜ now (high .exit) ≡ deepened (now (high .entry)) (i / highBlock) (depthK (t .kind) (asTerm t)) ⌝ }
 {
-    if t.kind != 3 {
+    if t.kind != words::BRACKET {
         return;
     }
-    deepen(low, i / 32, t.c);
-    deepen(high, i / 1024, t.c);
+    deepen(low, i / LOW_BLOCK, t.c);
+    deepen(high, i / HIGH_BLOCK, t.c);
 }
 
 // The first terms of a run: how many, and their deepest bracket.
@@ -107,8 +119,8 @@ struct Part {
 
 // The term at p as a part.
 fn one_term(terms: &[u32], p: usize) -> Part
-    requires { ⌜ p * 4 + 4 ≤ length (now terms) ⌝ }
-    ensures { λ r. ⌜ (r .len ≡ 1) × (r .deep ≡ deepestOf (runOf (now (terms .entry)) p (r .len))) ⌝ }
+    requires { ⌜ Lies termLayout (now terms) (p + 1) ⌝ }
+    ensures { λ r. ⌜ Covers (now (terms .entry)) p 1 (r .len) (r .deep) ⌝ }
 {
     let t = words::get_term(terms, p);
     Part {
@@ -119,34 +131,34 @@ fn one_term(terms: &[u32], p: usize) -> Part
 
 // What `deepest` takes at once of the n terms from p on: a whole block where one starts and ends within them, else one term.
 fn first_part(terms: &[u32], low: &[u8], high: &[u8], p: usize, n: usize) -> Part
-    requires { ⌜ (p + n) * 4 ≤ length (now terms) ⌝ }
+    requires { ⌜ Lies termLayout (now terms) (p + n) ⌝ }
     requires { ⌜ Blocks (now terms) (p + n) (now low) (now high) ⌝ }
     requires { ⌜ 0 < n ⌝ }
-    ensures { λ r. ⌜ (0 < r .len) × (r .len ≤ n) × (r .deep ≡ deepestOf (runOf (now (terms .entry)) p (r .len))) ⌝ }
+    ensures { λ r. ⌜ Covers (now (terms .entry)) p n (r .len) (r .deep) ⌝ }
 {
-    if n < 32 {
+    if n < LOW_BLOCK {
         return one_term(terms, p);
     }
-    if p % 32 != 0 {
+    if p % LOW_BLOCK != 0 {
         return one_term(terms, p);
     }
-    if 1024 <= n {
-        if p % 1024 == 0 {
+    if HIGH_BLOCK <= n {
+        if p % HIGH_BLOCK == 0 {
             return Part {
-                len: 1024,
-                deep: wide(high[p / 1024]),
+                len: HIGH_BLOCK,
+                deep: wide(high[p / HIGH_BLOCK]),
             };
         }
     }
     Part {
-        len: 32,
-        deep: wide(low[p / 32]),
+        len: LOW_BLOCK,
+        deep: wide(low[p / LOW_BLOCK]),
     }
 }
 
 // The deepest bracket among the n terms from s on, 0 if there is none.
 fn deepest(terms: &[u32], low: &[u8], high: &[u8], s: usize, n: usize) -> usize
-    requires { ⌜ (s + n) * 4 ≤ length (now terms) ⌝ }
+    requires { ⌜ Lies termLayout (now terms) (s + n) ⌝ }
     requires { ⌜ Blocks (now terms) (s + n) (now low) (now high) ⌝ }
     ensures { λ r. ⌜ r ≡ deepestOf (runOf (now (terms .entry)) s n) ⌝ }
 {
@@ -160,9 +172,12 @@ fn deepest(terms: &[u32], low: &[u8], high: &[u8], s: usize, n: usize) -> usize
     deep
 }
 
+// The deepest that brackets of terms lie.
+const DEPTH_LIMIT: usize = 255;
+
 // The rule of a bracket with number i: contents below it, its exact depth.
 fn bracket_ok(terms: &[u32], low: &[u8], high: &[u8], i: usize, t: Term) -> bool
-    requires { ⌜ i * 4 ≤ length (now terms) ⌝ }
+    requires { ⌜ Lies termLayout (now terms) i ⌝ }
     requires { ⌜ Blocks (now terms) i (now low) (now high) ⌝ }
     ensures { λ r. ⌜ r ≡ bracketRule (decode termLayout i (now (terms .entry))) (asTerm t) ⌝ }
 {
@@ -178,23 +193,23 @@ fn bracket_ok(terms: &[u32], low: &[u8], high: &[u8], i: usize, t: Term) -> bool
     if t.c - 1 != deepest(terms, low, high, t.a, t.b) {
         return false;
     }
-    t.c <= 255
+    t.c <= DEPTH_LIMIT
 }
 
 // The rule of a term with number i among those below it.
 fn term_ok(names: &[u8], terms: &[u32], low: &[u8], high: &[u8], i: usize, t: Term) -> bool
-    requires { ⌜ i * 4 ≤ length (now terms) ⌝ }
+    requires { ⌜ Lies termLayout (now terms) i ⌝ }
     requires { ⌜ Blocks (now terms) i (now low) (now high) ⌝ }
     ensures { λ r. ⌜ r ≡ termRule (now (names .entry)) (decode termLayout i (now (terms .entry))) (asTerm t) ⌝ }
 {
-    if t.kind < 3 {
+    if t.kind < words::BRACKET {
         return symbol_ok(names, t);
     }
-    if t.kind == 3 {
+    if t.kind == words::BRACKET {
         return bracket_ok(terms, low, high, i, t);
     }
-    if t.kind == 4 {
-        return t.a <= 2;
+    if t.kind == words::UNKNOWN {
+        return t.a <= words::EXPRESSION;
     }
     false
 }
@@ -202,8 +217,8 @@ fn term_ok(names: &[u8], terms: &[u32], low: &[u8], high: &[u8], i: usize, t: Te
 // The rule of the used terms. The tables are lent with no terms in them; each term that keeps its rule goes into them, so that they
 // have all terms below the next.
 fn all_ok(names: &[u8], terms: &[u32], used: usize, low: &mut [u8], high: &mut [u8]) -> bool
-    requires { ⌜ used * 4 ≤ length (now terms) ⌝ }
-    requires { ⌜ (used ≤ length (now low) * 32) × (used ≤ length (now high) * 1024) ⌝ }
+    requires { ⌜ Lies termLayout (now terms) used ⌝ }
+    requires { ⌜ (used ≤ length (now low) * lowBlock) × (used ≤ length (now high) * highBlock) ⌝ }
     requires { ⌜ Tables (now terms) 0 (now low) (now high) ⌝ }
     ensures { λ r. ⌜ r ≡ termsRule (now (names .entry)) [] (decode termLayout used (now (terms .entry))) ⌝ }
 {
@@ -221,16 +236,16 @@ fn all_ok(names: &[u8], terms: &[u32], used: usize, low: &mut [u8], high: &mut [
 
 // The rule of the used terms. Setting the tables to 0 would cost a small store more than its terms do, so it gets small ones.
 pub fn terms_ok(names: &[u8], terms: &[u32], used: usize) -> bool
-    requires { ⌜ (used * 4 ≤ length (now terms)) × (used ≤ 65536) ⌝ }
+    requires { ⌜ (Lies termLayout (now terms) used) × (used ≤ limit) ⌝ }
     ensures { λ r. ⌜ r ≡ termsRule (now (names .entry)) [] (decode termLayout used (now (terms .entry))) ⌝ }
 {
-    if used <= 1024 {
-        let mut low = [0u8; 32];
+    if used <= HIGH_BLOCK {
+        let mut low = [0u8; HIGH_BLOCK / LOW_BLOCK];
         let mut high = [0u8; 1];
         return all_ok(names, terms, used, &mut low, &mut high);
     }
-    let mut low = [0u8; 2048];
-    let mut high = [0u8; 64];
+    let mut low = [0u8; words::LIMIT / LOW_BLOCK];
+    let mut high = [0u8; words::LIMIT / HIGH_BLOCK];
     all_ok(names, terms, used, &mut low, &mut high)
 }
 
@@ -239,19 +254,19 @@ pub fn check_terms(names: &[u8], terms: &[u32], used: usize) -> usize
     ensures { λ r. ⌜ r ≡ termsNumber (now (names .entry)) (now (terms .entry)) used ⌝ }
 {
     if terms.len() % words::TERM_WIDTH != 0 {
-        return 1;
+        return refusal::UNEVEN;
     }
-    if 65536 < names.len() {
-        return 1;
+    if words::LIMIT < names.len() {
+        return refusal::UNEVEN;
     }
-    if 65536 < used {
-        return 1;
+    if words::LIMIT < used {
+        return refusal::UNEVEN;
     }
     if terms.len() / words::TERM_WIDTH < used {
-        return 1;
+        return refusal::UNEVEN;
     }
     if !terms_ok(names, terms, used) {
-        return 2;
+        return refusal::BAD_TERM;
     }
     0
 }
@@ -261,19 +276,19 @@ pub fn check_terms(names: &[u8], terms: &[u32], used: usize) -> usize
 // Whether two terms of one kind are equal, a bracket being no such term.
 pub fn equal_symbols(names: &[u8], t: Term, u: Term) -> bool
     requires { ⌜ Texts (now names) (asTerm t) (asTerm u) ⌝ }
-    requires { ⌜ (t .kind ≡ u .kind) × (t .kind ≡ 3 → ⊥) ⌝ }
+    requires { ⌜ (t .kind ≡ u .kind) × (t .kind ≡ bracketKind → ⊥) ⌝ }
     ensures { λ r. ⌜ r ≡ equalSymbols (now (names .entry)) (asTerm t) (asTerm u) ⌝ }
 {
-    if t.kind == 1 {
+    if t.kind == words::IDENTIFIER {
         return text::same_identifiers(names, t.a, t.b, u.a, u.b);
     }
-    if t.kind == 2 {
+    if t.kind == words::NUMBER {
         return text::same_numbers(names, t.a, t.b, u.a, u.b);
     }
     if t.a != u.a {
         return false;
     }
-    if t.kind == 0 {
+    if t.kind == words::CHAR {
         return true;
     }
     if t.b != u.b {
@@ -285,7 +300,7 @@ pub fn equal_symbols(names: &[u8], t: Term, u: Term) -> bool
 // Whether a literal of a pattern (kinds 0 to 2) and a term are equal. An unknown or a bracket is none.
 pub fn symbol_matches(names: &[u8], literal: Term, t: Term) -> bool
     requires { ⌜ Texts (now names) (asTerm literal) (asTerm t) ⌝ }
-    requires { ⌜ literal .kind < 3 ⌝ }
+    requires { ⌜ literal .kind < bracketKind ⌝ }
     ensures { λ r. ⌜ r ≡ equalSymbols (now (names .entry)) (asTerm literal) (asTerm t) ⌝ }
 {
     if literal.kind != t.kind {

@@ -5,6 +5,7 @@ use mathlib.Core.Bool.{Bool, true, false, _&&_}
 use lib.Dec.{leb}
 use lib.ListN.{length, drop}
 use Prim.Native.Nat.{ℕ, _+_}
+use Rattle.term_spec.specs.Refusal.{uneven, badTerm, badNode, badField, nodesFull}
 use Rattle.term_spec.specs.Words.{write}
 use Rattle.view_spec.specs.Node.{Field as SpecField, nodeLayout, fieldRule}
 use Rattle.view_spec.specs.Build.{Built as BuiltNodes}
@@ -39,13 +40,13 @@ numbered (some n) = n
 -- The first of 1 to 4 that applies.
 unfoldable pub checked : Store → Bool → SpecField → SpecField → Option ℕ
 checked s even f g =
-    ask (countsRule s && even) 1 (ask (storeTerms s) 2 (ask (storeNodes s) 3 (ask (fieldRule (nodes s) f && fieldRule (nodes s) g) 4 none)))
+    ask (countsRule s && even) uneven (ask (storeTerms s) badTerm (ask (storeNodes s) badNode (ask (fieldRule (nodes s) f && fieldRule (nodes s) g) badField none)))
 
 -- What a call that builds leaves once 1 to 9 let it pass: its answer, the words of the nodes and their count. 12 if the new nodes exceed the
 -- unused ones.
 unfoldable pub grownIf : Bool → List ℕ → ℕ → BuiltNodes → SpecAnswer × List ℕ × ℕ
 grownIf true w used b = (built (b .field), write nodeLayout w used (drop used (b .nodes)), used + length (drop used (b .nodes)))
-grownIf false w used b = (refused 12, w, used)
+grownIf false w used b = (refused nodesFull, w, used)
 
 -- The same, by the room there is.
 unfoldable pub grownBy : List ℕ → ℕ → BuiltNodes → SpecAnswer × List ℕ × ℕ

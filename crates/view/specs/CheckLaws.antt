@@ -10,7 +10,7 @@ use Prim.Native.Nat.{ℕ, suc, _*_, _/_, _%_, _<_, _≤_, min}
 use native.Mathlib.Decide.{decLe}
 use native.Mathlib.Omega.{arith}
 use Rattle.term_spec.specs.BoolLaws.{both-of, true-T, T-true}
-use Rattle.term_spec.specs.Words.{whole, count}
+use Rattle.term_spec.specs.Words.{whole, count, Lies}
 use Rattle.term_spec.specs.Term.{termLayout, limit}
 use Rattle.view_spec.specs.Node.{Field, nodeLayout, fieldRule}
 use Rattle.calls_spec.specs.Store.{Store, terms, nodes, capacity, countsRule, storeTerms, storeNodes}
@@ -76,26 +76,27 @@ abbrev pub nodesEven : Store → Bool
 nodesEven s = whole nodeLayout (s .nodeWords) && leb (s .nodesUsed) (capacity nodeLayout (s .nodeWords))
 
 module _ (w : List ℕ) (used : ℕ) where
-  pub even-whole : (length w % 6 ≡ 0 → ⊥) → false ≡ whole nodeLayout w && leb used (capacity nodeLayout w)
+  pub even-whole : (length w % nodeLayout .width ≡ 0 → ⊥) → false ≡ whole nodeLayout w && leb used (capacity nodeLayout w)
   unfolding whole
   even-whole n = simp (ne-eqb _ _ n)
 
-  pub even-limit : length w % 6 ≡ 0 → 65536 < used → false ≡ whole nodeLayout w && leb used (capacity nodeLayout w)
+  pub even-limit : length w % nodeLayout .width ≡ 0 → limit < used → false ≡ whole nodeLayout w && leb used (capacity nodeLayout w)
   unfolding whole capacity count
-  even-limit e h = simp (eq-eqb _ _ e, lt-leb used (min (length w / 6) 65536) (omega arith))
+  even-limit e h = simp (eq-eqb _ _ e, lt-leb used (min (length w / nodeLayout .width) limit) (omega arith))
 
-  pub even-slice : length w % 6 ≡ 0 → used ≤ 65536 → leb used (length w / 6) ≡ whole nodeLayout w && leb used (capacity nodeLayout w)
+  pub even-slice : length w % nodeLayout .width ≡ 0 → used ≤ limit → leb used (length w / nodeLayout .width) ≡ whole nodeLayout w && leb used (capacity nodeLayout w)
   unfolding whole capacity count
-  even-slice e h = rw (eq-eqb _ _ e, leb-min used (length w / 6) 65536 h) refl
+  even-slice e h = rw (eq-eqb _ _ e, leb-min used (length w / nodeLayout .width) limit h) refl
 
-  pub even-fits : whole nodeLayout w && leb used (capacity nodeLayout w) ≡ true → used * 6 ≤ length w
+  pub even-fits : whole nodeLayout w && leb used (capacity nodeLayout w) ≡ true → Lies nodeLayout w used
   unfolding whole capacity count
-  even-fits e = let h : used ≤ min (length w / 6) 65536 = leb-true _ _ (and-right (whole nodeLayout w) _ e) in omega arith
+  even-fits e = let h : used ≤ min (length w / nodeLayout .width) limit = leb-true _ _ (and-right (whole nodeLayout w) _ e) in omega arith
 
 pub counts-apart : (s : Store) → countsRule s ≡ nodesEven s && termsCounts (s .names) (s .termWords) (s .termsUsed)
 unfolding countsRule termsCounts capacity
 counts-apart s =
-    apart (whole termLayout (s .termWords)) (whole nodeLayout (s .nodeWords)) (leb (length (s .names)) limit) (leb (s .termsUsed) (capacity termLayout (s .termWords))) (leb (s .nodesUsed) (capacity nodeLayout (s .nodeWords)))
+    apart (whole termLayout (s .termWords)) (whole nodeLayout (s .nodeWords)) (leb (length (s .names)) limit)
+    (leb (s .termsUsed) (capacity termLayout (s .termWords))) (leb (s .nodesUsed) (capacity nodeLayout (s .nodeWords)))
 
 -- The rules of the nodes and of two fields.
 abbrev after : Store → Field → Field → Option ℕ

@@ -8,29 +8,31 @@ use lib.ListN.{length, drop}
 use lib.Seq.{drop-length}
 use Prim.Native.Nat.{ℕ, _+_, _-_, _/_, _<_, _≤_, min}
 use native.Mathlib.Omega.{arith}
-use Rattle.term_spec.specs.Words.{recordAt, count, write}
+use Rattle.term_spec.specs.Refusal.{nodesFull}
+use Rattle.term_spec.specs.Term.{limit}
+use Rattle.term_spec.specs.Words.{Lies, recordAt, count, write}
 use Rattle.term_spec.specs.WordsLaws.{decode-length, write-none}
-use Rattle.view_spec.specs.Node.{Node, Field, nodeLayout, nodeAt}
+use Rattle.view_spec.specs.Node.{Node, Field, nodeLayout, nodeAt, Piece}
 use Rattle.view_spec.specs.NodeLaws.{node-lays, node-some}
-use Rattle.view_spec.specs.Build.{last, unclamp, plan, planMakes, joinBy, join}
-use Rattle.view_spec.specs.JoinLaws.{Piece, grow-length}
+use Rattle.view_spec.specs.Build.{Built, last, unclamp, plan, planMakes, joinBy, join}
+use Rattle.view_spec.specs.JoinLaws.{grow-length}
 use Rattle.view_spec.specs.PlanLaws.{unclamped}
 use Rattle.calls_spec.specs.Store.{capacity}
 use Rattle.calls_spec.specs.Step.{built, refused}
-use Rattle.nodes.specs.Store.{nodesIn, Store}
+use Rattle.nodes.specs.NodeStore.{nodesIn, NodeStore, AnyStore, Reaches}
 use Rattle.nodes.specs.RuleLaws.{below-at}
-use Rattle.join.specs.Outer.{planBefore, grown}
-use Rattle.join.specs.TurnLaws.{any, good-any}
+use Rattle.nodes.specs.MakeLaws.{any, good-any}
+use Rattle.join.specs.Turn.{planBefore, grown, Joins}
 use Rattle.view.specs.Check.{grownIf, grownBy}
 use Rattle.view.specs.GrowLaws.{grown-full, grown-done}
 
-module _ (w : List ℕ) (terms used : ℕ) (s : Store w terms used) where
+module _ (w : List ℕ) {terms : ℕ} (used : ℕ) (s : NodeStore w terms used) where
   no-new : drop used (nodesIn w used) ≡ []
   no-new = ap (λ n. drop n (nodesIn w used)) (sym (decode-length nodeLayout used w)) ∙ drop-length (nodesIn w used)
 
   room-now : leb (used + 0) (capacity nodeLayout w) ≡ true
   unfolding capacity count
-  room-now = le-leb (used + 0) (min (length w / 6) 65536) (omega (arith, s .fits, s .few))
+  room-now = le-leb (used + 0) (min (length w / nodeLayout .width) limit) (omega (arith, s .fits, s .few))
 
   -- a field and no new node
   pub same-nodes : (h : Field) → (built h, w, used) ≡ grownBy w used (record { nodes = nodesIn w used; field = h })
@@ -58,18 +60,18 @@ module _ (w : List ℕ) (terms used : ℕ) (s : Store w terms used) where
     join-right-empty k z = by-right _ _ k z
 
 -- A field that is not empty is a piece of its node.
-pub field-piece : (w : List ℕ) (terms used : ℕ) → Store w terms used → (i len : ℕ) → i < used → len ≤ (nodeAt (nodesIn w used) i) .reach → (len ≡ 0 → ⊥) → Piece (nodesIn w used) i len
-field-piece w terms used s i len lt h k =
+pub field-piece : (w : List ℕ) (used : ℕ) → AnyStore w used → (i len : ℕ) → Reaches w used i len → (len ≡ 0 → ⊥) → Piece (nodesIn w used) i len
+field-piece w used s i len r k =
     let l = decode-length nodeLayout used w in
-    let b : i < length (nodesIn w used) = omega (arith, l) in
+    let b : i < length (nodesIn w used) = omega (arith, l, r .low) in
     let o : 1 ≤ len = omega arith in
-    record { below = b; some-node = node-some terms (nodesIn w used) i (s .good) b (omega arith); some-len = o; within = h }
+    record { below = b; some-node = node-some (s .terms) (nodesIn w used) i (s .store .good) b (omega (arith, r .fits)); some-len = o; within = r .fits }
 
 -- The right, unclamped, is a lower node that is no Nil.
-pub right-piece : (w : List ℕ) (terms used : ℕ) → Store w terms used → {i len r : ℕ} → Piece (nodesIn w used) i len → r ≡ unclamp (nodesIn w used) i len
+pub right-piece : (w : List ℕ) (used : ℕ) → AnyStore w used → {i len r : ℕ} → Piece (nodesIn w used) i len → r ≡ unclamp (nodesIn w used) i len
     → (r < used) × (1 ≤ (nodeAt (nodesIn w used) r) .kind)
-right-piece w terms used s {i} {len} {r} p e =
-    let u = unclamped (any terms) (nodesIn w used) (good-any terms (nodesIn w used) (s .good)) i len (p .below) (p .some-node) (p .within) in
+right-piece w used s {i} {len} {r} p e =
+    let u = unclamped (any (s .terms)) (nodesIn w used) (good-any (s .terms) (nodesIn w used) (s .store .good)) i len (p .below) (p .some-node) (p .within) in
     let l = decode-length nodeLayout used w in
     (omega (arith, e, u .lower, p .below, l), rw e (u .some-node))
 
@@ -79,29 +81,41 @@ height-at w used r e h = ap (λ n. n .height) (below-at w used r e h)
 
 -- ---- the nodes of a join of two fields that are not empty ----
 
+-- The nodes after the join of f and g, r being the right unclamped, and its field.
+abbrev bothBuilt : List Node → ℕ → Field → Field → Built
+bothBuilt ns r f g = record {
+  nodes = grown ns r (f .node) (f .len);
+  field = record { node = last (grown ns r (f .node) (f .len)); len = f .len + g .len };
+}
+
 module _ (w : List ℕ) (used : ℕ) (f g : Field) (ff : f .len ≡ 0 → ⊥) (gg : g .len ≡ 0 → ⊥) {r m h : ℕ} (re : r ≡ unclamp (nodesIn w used) (g .node) (g .len))
     (he : h ≡ (nodeAt (nodesIn w used) r) .height) (me : m ≡ planMakes (plan (nodesIn w used) h (f .node) (f .len))) where
   by-both : (d : Dec (f .len ≡ 0)) (d′ : Dec (g .len ≡ 0))
-      → joinBy d d′ f g (nodesIn w used) ≡ record { nodes = grown (nodesIn w used) r (f .node) (f .len); field = record { node = last (grown (nodesIn w used) r (f .node) (f .len)); len = f .len + g .len } }
+      → joinBy d d′ f g (nodesIn w used) ≡ bothBuilt (nodesIn w used) r f g
   unfolding joinBy
   by-both (yes a) d′ = absurd (ff a)
   by-both (no a) (yes b) = absurd (gg b)
   by-both (no a) (no b) = rw re refl
 
-  joins : join f g (nodesIn w used) ≡ record { nodes = grown (nodesIn w used) r (f .node) (f .len); field = record { node = last (grown (nodesIn w used) r (f .node) (f .len)); len = f .len + g .len } }
+  joins : join f g (nodesIn w used) ≡ bothBuilt (nodesIn w used) r f g
   unfolding join
   joins = by-both _ _
 
   pub made-before : m ≡ planMakes (planBefore (nodesIn w used) r (f .node) (f .len))
   made-before = me ∙ ap (λ x. planMakes (plan (nodesIn w used) x (f .node) (f .len))) he
 
+  -- What join_build asks of the right and the room.
+  pub joins-fit : (r < used) × (1 ≤ (nodeAt (nodesIn w used) r) .kind) → (used + m ≤ limit) × Lies nodeLayout w (used + m) → Joins w used r (f .node) (f .len) (used + m)
+  joins-fit (low, some) (few, room) = record { low = low; some-node = some; made = ap (λ z. used + z) made-before; few = few; room = room }
+
   join-length : length (grown (nodesIn w used) r (f .node) (f .len)) ≡ used + m
   join-length = grow-length r (planBefore (nodesIn w used) r (f .node) (f .len)) (nodesIn w used) ∙ rw (decode-length, ← made-before) refl
 
-  pub joined-full : leb (used + m) (capacity nodeLayout w) ≡ false → (refused 12, w, used) ≡ grownBy w used (join f g (nodesIn w used))
+  pub joined-full : leb (used + m) (capacity nodeLayout w) ≡ false → (refused nodesFull, w, used) ≡ grownBy w used (join f g (nodesIn w used))
   joined-full e = rw joins (grown-full w used _ m join-length e)
 
-  pub joined-done : leb (used + m) (capacity nodeLayout w) ≡ true → {i : ℕ} {v : List ℕ} → i ≡ used + m - 1 → v ≡ write nodeLayout w used (drop used (grown (nodesIn w used) r (f .node) (f .len)))
-      → (built (record { node = i; len = f .len + g .len }), v, used + m) ≡ grownBy w used (join f g (nodesIn w used))
+  pub joined-done : leb (used + m) (capacity nodeLayout w) ≡ true → {j : Field} {v : List ℕ} → j ≡ record { node = used + m - 1; len = f .len + g .len }
+      → v ≡ write nodeLayout w used (drop used (grown (nodesIn w used) r (f .node) (f .len)))
+      → (built j, v, used + m) ≡ grownBy w used (join f g (nodesIn w used))
   joined-done e p q =
-      rw joins (grown-done w used _ m join-length e (ap (λ x. record { node = x; len = f .len + g .len }) (p ∙ ap (λ x. x - 1) (sym join-length))) q)
+      rw joins (grown-done w used _ m join-length e (p ∙ ap (λ x. record { node = x - 1; len = f .len + g .len }) (sym join-length)) q)

@@ -1,16 +1,17 @@
 // View fields in code: the field, the checks that every call makes, and the calls. From value.rs (`ViewField`); refusals are the port's.
+use words::refusal;
 ghost use mathlib.Core.Path.{_≡_};
 ghost use mathlib.Core.Bool.{_&&_};
-ghost use lib.Dec.{T, leb};
-ghost use lib.ListN.{length};
-ghost use Prim.Native.Nat.{_+_, _*_, _<_, _≤_};
-ghost use Rattle.term_spec.specs.Words.{whole, records};
-ghost use Rattle.term_spec.specs.Term.{runLayout, runsRule};
-ghost use Rattle.view_spec.specs.Node.{nodeLayout, nodeAt};
+ghost use lib.Dec.{leb};
+ghost use Prim.Native.Nat.{_+_, _≤_, min};
+ghost use Rattle.term_spec.specs.Words.{Lies, whole, records};
+ghost use Rattle.term_spec.specs.Term.{runLayout, limit};
+ghost use Rattle.view_spec.specs.Node.{nodeLayout};
 ghost use Rattle.view_spec.specs.Build.{fromRuns, total, takeField, rest as specRest, join as specJoin};
 ghost use Rattle.calls_spec.specs.Store.{capacity};
 ghost use Rattle.calls_spec.specs.Step.{callFromRuns, callTake, callRest, callRange, callJoin, step};
-ghost use Rattle.nodes.specs.Store.{nodesIn, Store};
+ghost use Rattle.nodes.specs.NodeStore.{nodesIn, AnyStore, Reaches};
+ghost use Rattle.from_runs.specs.FromRuns.{RunStore};
 ghost use Rattle.view.specs.Check.{asField, storeOf, checked, numbered, answerOf, leaves, grownBy};
 
 // A field: the first len terms of a node.
@@ -23,14 +24,18 @@ impl Field {
     // The empty field.
     pub const EMPTY: Field = Field { node: 0, len: 0 };
 
-    // The first n terms of it.
-    pub fn clamped(self, n: usize) -> Field
-        ensures { λ r. ⌜ asField r ≡ takeField (asField self) n ⌝ }
+    // The first len terms of a node.
+    pub fn new(node: usize, len: usize) -> Field
+        ensures { λ r. ⌜ asField r ≡ record { node = node; len = len } ⌝ }
     {
-        Field {
-            node: self.node,
-            len: n,
-        }
+        Field { node, len }
+    }
+
+    // Its first n terms; all of them where it has fewer.
+    pub fn clamped(self, n: usize) -> Field
+        ensures { λ r. ⌜ asField r ≡ takeField (asField self) (min (self .len) n) ⌝ }
+    {
+        Field::new(self.node, nodes::smaller(self.len, n))
     }
 }
 
@@ -44,12 +49,14 @@ pub enum Answer {
 
 // 1 Uneven, of the nodes.
 fn nodes_even(nodes: &[u32], used: usize) -> bool
-    ensures { λ r. ⌜ r ≡ whole nodeLayout (now (nodes .entry)) && leb used (capacity nodeLayout (now (nodes .entry))) ⌝ }
+    ensures { λ r.
+        let words = now (nodes .entry) in
+        ⌜ r ≡ whole nodeLayout words && leb used (capacity nodeLayout words) ⌝ }
 {
     if nodes.len() % words::NODE_WIDTH != 0 {
         return false;
     }
-    if 65536 < used {
+    if words::LIMIT < used {
         return false;
     }
     used <= nodes.len() / words::NODE_WIDTH
@@ -67,36 +74,38 @@ pub fn check(
     f: Field,
     g: Field,
 ) -> usize
-    ensures { λ r. ⌜ r ≡ numbered (checked (storeOf (now (names .entry)) (now (terms .entry)) «terms_used» (now (nodes .entry)) «nodes_used») even (asField f) (asField g)) ⌝ }
+    ensures { λ r.
+        let store = storeOf (now (names .entry)) (now (terms .entry)) «terms_used» (now (nodes .entry)) «nodes_used» in
+        ⌜ r ≡ numbered (checked store even (asField f) (asField g)) ⌝ }
 {
     if !even {
-        return 1;
+        return refusal::UNEVEN;
     }
     if !nodes_even(nodes, nodes_used) {
-        return 1;
+        return refusal::UNEVEN;
     }
     let number = value::check_terms(names, terms, terms_used);
     if number != 0 {
         return number;
     }
     if !nodes::nodes_ok(nodes, terms_used, nodes_used) {
-        return 3;
+        return refusal::BAD_NODE;
     }
     if !nodes::field_ok(nodes, nodes_used, f.node, f.len) {
-        return 4;
+        return refusal::BAD_FIELD;
     }
     if !nodes::field_ok(nodes, nodes_used, g.node, g.len) {
-        return 4;
+        return refusal::BAD_FIELD;
     }
     0
 }
 
 // Whether so many more nodes fit, by slice and limit.
 fn node_room(nodes: &[u32], used: usize, made: usize) -> bool
-    requires { ⌜ (used * 6 ≤ length (now nodes)) × (used ≤ 65536) ⌝ }
+    requires { ⌜ Lies nodeLayout (now nodes) used × (used ≤ limit) ⌝ }
     ensures { λ r. ⌜ r ≡ leb (used + made) (capacity nodeLayout (now (nodes .entry))) ⌝ }
 {
-    if 65536 - used < made {
+    if words::LIMIT - used < made {
         return false;
     }
     made <= nodes.len() / words::NODE_WIDTH - used
@@ -105,22 +114,26 @@ fn node_room(nodes: &[u32], used: usize, made: usize) -> bool
 // ---- calls ----
 
 // The runs of a list as one field of `len` terms, if the nodes fit.
-fn chained(terms: usize, nodes: &mut [u32], count: &mut usize, runs: &[u32], len: usize) -> Answer
-    requires { ⌜ Store (now nodes) terms (now count) × (terms ≤ 65536) ⌝ }
-    requires { ⌜ T (runsRule terms (records runLayout (now runs))) × (len ≡ total (records runLayout (now runs))) ⌝ }
-    ensures { λ r. ⌜ (answerOf r, now (nodes .exit), now (count .exit)) ≡ grownBy (now (nodes .entry)) (now (count .entry)) (fromRuns (records runLayout (now (runs .entry))) (nodesIn (now (nodes .entry)) (now (count .entry)))) ⌝ }
+fn chained(nodes: &mut [u32], count: &mut usize, runs: &[u32], len: usize) -> Answer
+    requires { ⌜ RunStore (now nodes) (now count) (now runs) ⌝ }
+    requires { ⌜ len ≡ total (records runLayout (now runs)) ⌝ }
+    ensures { λ r.
+        let before = now (nodes .entry) in
+        let used = now (count .entry) in
+        let built = fromRuns (records runLayout (now (runs .entry))) (nodesIn before used) in
+        ⌜ (answerOf r, now (nodes .exit), now (count .exit)) ≡ grownBy before used built ⌝ }
 {
     if len == 0 {
         return Answer::Built(Field::EMPTY);
     }
     let used = *count;
-    let made = chain::chain_makes(runs);
+    let made = from_runs::from_runs_makes(runs);
     if !node_room(nodes, used, made) {
-        return Answer::Refused(12);
+        return Answer::Refused(refusal::NODES_FULL);
     }
-    let node = chain::chain_build(nodes, terms, used, runs);
+    let node = from_runs::from_runs_build(nodes, used, runs);
     *count = used + made;
-    Answer::Built(Field { node, len })
+    Answer::Built(Field::new(node, len))
 }
 
 // The terms of runs, in order.
@@ -132,7 +145,10 @@ pub fn from_runs(
     nodes_used: &mut usize,
     runs: &[u32],
 ) -> Answer
-    ensures { λ r. ⌜ leaves (answerOf r) (storeOf (now (names .entry)) (now (terms .entry)) «terms_used» (now (nodes .exit)) (now («nodes_used» .exit))) ≡ step (storeOf (now (names .entry)) (now (terms .entry)) «terms_used» (now (nodes .entry)) (now («nodes_used» .entry))) (callFromRuns (now (runs .entry))) ⌝ }
+    ensures { λ r.
+        let before = storeOf (now (names .entry)) (now (terms .entry)) «terms_used» (now (nodes .entry)) (now («nodes_used» .entry)) in
+        let after = storeOf (now (names .entry)) (now (terms .entry)) «terms_used» (now (nodes .exit)) (now («nodes_used» .exit)) in
+        ⌜ leaves (answerOf r) after ≡ step before (callFromRuns (now (runs .entry))) ⌝ }
 {
     let number = check(
         names,
@@ -140,21 +156,21 @@ pub fn from_runs(
         terms_used,
         nodes,
         *nodes_used,
-        chain::runs_even(runs),
+        from_runs::runs_even(runs),
         Field::EMPTY,
         Field::EMPTY,
     );
     if number != 0 {
         return Answer::Refused(number);
     }
-    if !chain::runs_inside(runs, terms_used) {
-        return Answer::Refused(5);
+    if !from_runs::runs_inside(runs, terms_used) {
+        return Answer::Refused(refusal::PAST_END);
     }
-    let len = chain::runs_total(runs, terms_used);
-    if 65536 < len {
-        return Answer::Refused(6);
+    let len = from_runs::runs_total(runs);
+    if words::LIMIT < len {
+        return Answer::Refused(refusal::TOO_LONG);
     }
-    chained(terms_used, nodes, nodes_used, runs, len)
+    chained(nodes, nodes_used, runs, len)
 }
 
 // The first n terms of a field.
@@ -167,7 +183,9 @@ pub fn take(
     f: Field,
     n: usize,
 ) -> Answer
-    ensures { λ r. ⌜ leaves (answerOf r) (storeOf (now (names .entry)) (now (terms .entry)) «terms_used» (now (nodes .entry)) «nodes_used») ≡ step (storeOf (now (names .entry)) (now (terms .entry)) «terms_used» (now (nodes .entry)) «nodes_used») (callTake (asField f) n) ⌝ }
+    ensures { λ r.
+        let store = storeOf (now (names .entry)) (now (terms .entry)) «terms_used» (now (nodes .entry)) «nodes_used» in
+        ⌜ leaves (answerOf r) store ≡ step store (callTake (asField f) n) ⌝ }
 {
     let number = check(
         names,
@@ -183,28 +201,29 @@ pub fn take(
         return Answer::Refused(number);
     }
     if f.len < n {
-        return Answer::Refused(5);
+        return Answer::Refused(refusal::PAST_END);
     }
     Answer::Built(f.clamped(n))
 }
 
 // The field without its first k terms, if the nodes fit.
-fn dropped(terms: usize, nodes: &mut [u32], count: &mut usize, f: Field, k: usize) -> Answer
-    requires { ⌜ Store (now nodes) terms (now count) × (terms ≤ 65536) ⌝ }
-    requires { ⌜ (f .node < now count) × (f .len ≤ (nodeAt (nodesIn (now nodes) (now count)) (f .node)) .reach) × (k ≤ f .len) ⌝ }
-    ensures { λ r. ⌜ (answerOf r, now (nodes .exit), now (count .exit)) ≡ grownBy (now (nodes .entry)) (now (count .entry)) (specRest (asField f) k (nodesIn (now (nodes .entry)) (now (count .entry)))) ⌝ }
+fn dropped(nodes: &mut [u32], count: &mut usize, f: Field, k: usize) -> Answer
+    requires { ⌜ AnyStore (now nodes) (now count) ⌝ }
+    requires { ⌜ Reaches (now nodes) (now count) (f .node) (f .len) × (k ≤ f .len) ⌝ }
+    ensures { λ r.
+        let before = now (nodes .entry) in
+        let used = now (count .entry) in
+        let built = specRest (asField f) k (nodesIn before used) in
+        ⌜ (answerOf r, now (nodes .exit), now (count .exit)) ≡ grownBy before used built ⌝ }
 {
     let used = *count;
-    let made = rest::rest_makes(nodes, terms, used, f.node, k);
+    let made = drop_front::drop_front_makes(nodes, used, f.node, k);
     if !node_room(nodes, used, made) {
-        return Answer::Refused(12);
+        return Answer::Refused(refusal::NODES_FULL);
     }
-    let node = rest::rest_build(nodes, terms, used, f.node, k, used + made);
+    let node = drop_front::drop_front_build(nodes, used, f.node, k, used + made);
     *count = used + made;
-    Answer::Built(Field {
-        node,
-        len: f.len - k,
-    })
+    Answer::Built(Field::new(node, f.len - k))
 }
 
 // A field without its first k terms.
@@ -217,7 +236,10 @@ pub fn rest(
     f: Field,
     k: usize,
 ) -> Answer
-    ensures { λ r. ⌜ leaves (answerOf r) (storeOf (now (names .entry)) (now (terms .entry)) «terms_used» (now (nodes .exit)) (now («nodes_used» .exit))) ≡ step (storeOf (now (names .entry)) (now (terms .entry)) «terms_used» (now (nodes .entry)) (now («nodes_used» .entry))) (callRest (asField f) k) ⌝ }
+    ensures { λ r.
+        let before = storeOf (now (names .entry)) (now (terms .entry)) «terms_used» (now (nodes .entry)) (now («nodes_used» .entry)) in
+        let after = storeOf (now (names .entry)) (now (terms .entry)) «terms_used» (now (nodes .exit)) (now («nodes_used» .exit)) in
+        ⌜ leaves (answerOf r) after ≡ step before (callRest (asField f) k) ⌝ }
 {
     let number = check(
         names,
@@ -233,9 +255,9 @@ pub fn rest(
         return Answer::Refused(number);
     }
     if f.len < k {
-        return Answer::Refused(5);
+        return Answer::Refused(refusal::PAST_END);
     }
-    dropped(terms_used, nodes, nodes_used, f, k)
+    dropped(nodes, nodes_used, f, k)
 }
 
 // n terms of a field after its first k: rest, then take.
@@ -249,7 +271,10 @@ pub fn range(
     k: usize,
     n: usize,
 ) -> Answer
-    ensures { λ r. ⌜ leaves (answerOf r) (storeOf (now (names .entry)) (now (terms .entry)) «terms_used» (now (nodes .exit)) (now («nodes_used» .exit))) ≡ step (storeOf (now (names .entry)) (now (terms .entry)) «terms_used» (now (nodes .entry)) (now («nodes_used» .entry))) (callRange (asField f) k n) ⌝ }
+    ensures { λ r.
+        let before = storeOf (now (names .entry)) (now (terms .entry)) «terms_used» (now (nodes .entry)) (now («nodes_used» .entry)) in
+        let after = storeOf (now (names .entry)) (now (terms .entry)) «terms_used» (now (nodes .exit)) (now («nodes_used» .exit)) in
+        ⌜ leaves (answerOf r) after ≡ step before (callRange (asField f) k n) ⌝ }
 {
     let number = check(
         names,
@@ -265,23 +290,27 @@ pub fn range(
         return Answer::Refused(number);
     }
     if f.len < k {
-        return Answer::Refused(5);
+        return Answer::Refused(refusal::PAST_END);
     }
     if f.len - k < n {
-        return Answer::Refused(5);
+        return Answer::Refused(refusal::PAST_END);
     }
-    match dropped(terms_used, nodes, nodes_used, f, k) {
+    match dropped(nodes, nodes_used, f, k) {
         Answer::Built(g) => Answer::Built(g.clamped(n)),
         Answer::Refused(m) => Answer::Refused(m),
     }
 }
 
 // The left's terms, then the right's, if the nodes fit. An empty operand gives the other as it is.
-fn joined(terms: usize, nodes: &mut [u32], count: &mut usize, f: Field, g: Field) -> Answer
-    requires { ⌜ Store (now nodes) terms (now count) ⌝ }
-    requires { ⌜ (f .node < now count) × (f .len ≤ (nodeAt (nodesIn (now nodes) (now count)) (f .node)) .reach) ⌝ }
-    requires { ⌜ (g .node < now count) × (g .len ≤ (nodeAt (nodesIn (now nodes) (now count)) (g .node)) .reach) × (f .len + g .len ≤ 65536) ⌝ }
-    ensures { λ r. ⌜ (answerOf r, now (nodes .exit), now (count .exit)) ≡ grownBy (now (nodes .entry)) (now (count .entry)) (specJoin (asField f) (asField g) (nodesIn (now (nodes .entry)) (now (count .entry)))) ⌝ }
+fn joined(nodes: &mut [u32], count: &mut usize, f: Field, g: Field) -> Answer
+    requires { ⌜ AnyStore (now nodes) (now count) ⌝ }
+    requires { ⌜ Reaches (now nodes) (now count) (f .node) (f .len) ⌝ }
+    requires { ⌜ Reaches (now nodes) (now count) (g .node) (g .len) × (f .len + g .len ≤ limit) ⌝ }
+    ensures { λ r.
+        let before = now (nodes .entry) in
+        let used = now (count .entry) in
+        let built = specJoin (asField f) (asField g) (nodesIn before used) in
+        ⌜ (answerOf r, now (nodes .exit), now (count .exit)) ≡ grownBy before used built ⌝ }
 {
     if f.len == 0 {
         return Answer::Built(g);
@@ -290,18 +319,15 @@ fn joined(terms: usize, nodes: &mut [u32], count: &mut usize, f: Field, g: Field
         return Answer::Built(f);
     }
     let used = *count;
-    let right = nodes::unclamp(nodes, terms, used, g.node, g.len);
+    let right = nodes::unclamp(nodes, used, g.node, g.len);
     let r = words::get_node(nodes, right);
-    let made = join::join_makes(nodes, terms, used, r.height, f.node, f.len);
+    let made = join::join_makes(nodes, used, r.height, f.node, f.len);
     if !node_room(nodes, used, made) {
-        return Answer::Refused(12);
+        return Answer::Refused(refusal::NODES_FULL);
     }
-    join::join_build(nodes, terms, used, right, f.node, f.len, used + made);
+    join::join_build(nodes, used, right, f.node, f.len, used + made);
     *count = used + made;
-    Answer::Built(Field {
-        node: used + made - 1,
-        len: f.len + g.len,
-    })
+    Answer::Built(Field::new(used + made - 1, f.len + g.len))
 }
 
 // Two fields as one: the left's terms, then the right's.
@@ -314,17 +340,20 @@ pub fn join(
     f: Field,
     g: Field,
 ) -> Answer
-    ensures { λ r. ⌜ leaves (answerOf r) (storeOf (now (names .entry)) (now (terms .entry)) «terms_used» (now (nodes .exit)) (now («nodes_used» .exit))) ≡ step (storeOf (now (names .entry)) (now (terms .entry)) «terms_used» (now (nodes .entry)) (now («nodes_used» .entry))) (callJoin (asField f) (asField g)) ⌝ }
+    ensures { λ r.
+        let before = storeOf (now (names .entry)) (now (terms .entry)) «terms_used» (now (nodes .entry)) (now («nodes_used» .entry)) in
+        let after = storeOf (now (names .entry)) (now (terms .entry)) «terms_used» (now (nodes .exit)) (now («nodes_used» .exit)) in
+        ⌜ leaves (answerOf r) after ≡ step before (callJoin (asField f) (asField g)) ⌝ }
 {
     let number = check(names, terms, terms_used, nodes, *nodes_used, true, f, g);
     if number != 0 {
         return Answer::Refused(number);
     }
-    if 65536 < f.len {
-        return Answer::Refused(6);
+    if words::LIMIT < f.len {
+        return Answer::Refused(refusal::TOO_LONG);
     }
-    if 65536 - f.len < g.len {
-        return Answer::Refused(6);
+    if words::LIMIT - f.len < g.len {
+        return Answer::Refused(refusal::TOO_LONG);
     }
-    joined(terms_used, nodes, nodes_used, f, g)
+    joined(nodes, nodes_used, f, g)
 }

@@ -13,10 +13,10 @@ use Rattle.term_spec.specs.ValueLaws.{is-no}
 use Rattle.view_spec.specs.Node.{Field, fieldRule, meaning, holds}
 use Rattle.view_spec.specs.NodeLaws.{facts-field, holds-length}
 use Rattle.view_spec.specs.Read.{equalTerms, startsWith}
-use Rattle.calls_spec.specs.Store.{Store as Stores, nodes, terms, spelled, fieldTerms}
+use Rattle.calls_spec.specs.Store.{Store, nodes, terms, spelled, fieldTerms}
 use Rattle.calls_spec.specs.StoreLaws.{nodes-length, spelled-length}
-use Rattle.calls_spec.specs.Step.{Call, refused, truth, callStartsWith, callEqual, ask, evenRule, arguments, room, accept, afterRead, slotsLent, workLent, step}
-use Rattle.nodes.specs.Store.{nodesIn}
+use Rattle.calls_spec.specs.Step.{Call, refused, truth, callStartsWith, callEqual, ask, given, evenRule, slotsLent, workLent, fits, changed, deed, arguments, room, accept, step}
+use Rattle.nodes.specs.NodeStore.{nodesIn}
 use Rattle.value.specs.Equal.{valuesIn}
 use Rattle.view.specs.Check.{numbered, checked, leaves}
 use Rattle.view.specs.StepLaws.{ordered, two-fields, left-refused, input-refused, input-passed, step-done, Usable, usable-both}
@@ -24,15 +24,15 @@ use Rattle.view.specs.StepLaws.{ordered, two-fields, left-refused, input-refuse
 -- ---- what a call leaves that compares two fields ----
 
 -- The call c compares the fields f and g, and b is its answer.
-record Compares (s : Stores) (f g : Field) (c : Call) (b : Bool) : Type 0 where
+record Compares (s : Store) (f g : Field) (c : Call) (b : Bool) : Type 0 where
   even : evenRule c ≡ true
   asks : arguments s c ≡ ask (fieldRule (nodes s) f && fieldRule (nodes s) g) 4 none
   free : room s c ≡ none
-  done : accept s c ≡ afterRead s b
+  done : accept s c ≡ leaves (truth b) s
   no-slots : slotsLent c ≡ []
   no-work : workLent c ≡ []
 
-module _ {s : Stores} {f g : Field} {c : Call} {b : Bool} (w : Compares s f g c b) {n : ℕ} (e : n ≡ numbered (checked s true f g)) where
+module _ {s : Store} {f g : Field} {c : Call} {b : Bool} (w : Compares s f g c b) {n : ℕ} (e : n ≡ numbered (checked s true f g)) where
   both : n ≡ numbered (ordered s true (fieldRule (nodes s) f && fieldRule (nodes s) g) none)
   both = e ∙ ap numbered (two-fields s true f g)
 
@@ -40,15 +40,14 @@ module _ {s : Stores} {f g : Field} {c : Call} {b : Bool} (w : Compares s f g c 
   compare-refused h = left-refused s c (input-refused s c true _ none (w .even) (w .asks) both h) (w .no-slots) (w .no-work)
 
   compare-done : n ≡ 0 → {a : Bool} → a ≡ b → leaves (truth a) s ≡ step s c
-  unfolding leaves afterRead
   compare-done z p = rw p (sym (w .done)) ∙ sym (step-done s c (input-passed s c true _ none (w .even) (w .asks) both z) (w .free))
 
-starts : (s : Stores) (f g : Field) → Compares s f g (callStartsWith f g) (startsWith (fieldTerms s f) (fieldTerms s g))
-unfolding evenRule arguments room accept slotsLent workLent
+starts : (s : Store) (f g : Field) → Compares s f g (callStartsWith f g) (startsWith (fieldTerms s f) (fieldTerms s g))
+unfolding deed given room fits ask accept changed leaves
 starts s f g = record { even = refl; asks = refl; free = refl; done = refl; no-slots = refl; no-work = refl }
 
-equals : (s : Stores) (f g : Field) → Compares s f g (callEqual f g) (equalTerms (fieldTerms s f) (fieldTerms s g))
-unfolding evenRule arguments room accept slotsLent workLent
+equals : (s : Store) (f g : Field) → Compares s f g (callEqual f g) (equalTerms (fieldTerms s f) (fieldTerms s g))
+unfolding deed given room fits ask accept changed leaves
 equals s f g = record { even = refl; asks = refl; free = refl; done = refl; no-slots = refl; no-work = refl }
 
 -- ---- comparing lists of terms ----
@@ -67,26 +66,26 @@ starts-longer x y h = lengths-differ (take (length y) x) y (λ q. omega (arith, 
 
 -- ---- the terms of a field ----
 
-field-length : (s : Stores) (f : Field) → Usable s f → length (fieldTerms s f) ≡ f .len
+field-length : (s : Store) (f : Field) → Usable s f → length (fieldTerms s f) ≡ f .len
 unfolding fieldTerms nodes
 field-length s f u =
     holds-length (spelled s) (nodes s) f (rw (spelled-length s) (u .store .good)) (facts-field (nodes s) f (rw (nodes-length s) (u .low)) (u .within))
 
 -- The first k terms of node i, as the code reads them.
-abbrev front : Stores → ℕ → ℕ → List Value
+abbrev front : Store → ℕ → ℕ → List Value
 front s i k = holds (valuesIn (s .names) (s .termWords) (s .termsUsed)) (nodesIn (s .nodeWords) (s .nodesUsed)) (record { node = i; len = k })
 
-field-front : (s : Stores) (f : Field) (k : ℕ) → k ≤ f .len → front s (f .node) k ≡ take k (fieldTerms s f)
+field-front : (s : Store) (f : Field) (k : ℕ) → k ≤ f .len → front s (f .node) k ≡ take k (fieldTerms s f)
 unfolding fieldTerms spelled nodes terms
 field-front s f k h = sym (take-take k (f .len) (meaning (spelled s) (nodes s) (f .node)) h)
 
-field-all : (s : Stores) (f : Field) → front s (f .node) (f .len) ≡ fieldTerms s f
+field-all : (s : Store) (f : Field) → front s (f .node) (f .len) ≡ fieldTerms s f
 unfolding fieldTerms spelled nodes terms
 field-all s f = refl
 
 -- ---- the exits of the code ----
 
-module _ (s : Stores) (f g : Field) {n : ℕ} (e : n ≡ numbered (checked s true f g)) where
+module _ (s : Store) (f g : Field) {n : ℕ} (e : n ≡ numbered (checked s true f g)) where
   pub starts-refused : (n ≡ 0 → ⊥) → leaves (refused n) s ≡ step s (callStartsWith f g)
   starts-refused h = compare-refused (starts s f g) e h
 

@@ -5,7 +5,7 @@ use borrow.Author.Tests.{le-leb, lt-leb}
 use lib.ListN.{length, take, drop, length-drop}
 use Prim.Native.Nat.{ℕ, _+_, _*_, _-_, _/_, _<_, _≤_}
 use native.Mathlib.Omega.{arith}
-use Rattle.term_spec.specs.Words.{decode, count, write}
+use Rattle.term_spec.specs.Words.{decode, count, write, Lies}
 use Rattle.term_spec.specs.WordsLaws.{term-lays, decode-length, decode-take, decode-part, decode-write, write-length}
 use Rattle.term_spec.specs.ListLaws.{part-length}
 use Rattle.term_spec.specs.TermLaws.{run-facts}
@@ -14,60 +14,61 @@ use Rattle.view_spec.specs.Node.{Field, holds}
 use Rattle.view_spec.specs.NodeLaws.{facts-field}
 use Rattle.view_spec.specs.Read.{Place, stored, scattered, place, copyAt}
 use Rattle.view_spec.specs.ReadLaws.{place-shows}
-use Rattle.calls_spec.specs.Store.{Store as Stores, terms, nodes}
-use Rattle.calls_spec.specs.Step.{Answer, refused, inStore, inWork, afterFlatten}
+use Rattle.calls_spec.specs.Store.{Store, terms, nodes}
+use Rattle.calls_spec.specs.Step.{Answer, refused, inStore, inWork, shownBy, flatAnswer, flatWork}
 use Rattle.view.specs.StepLaws.{Usable}
-use Rattle.view_read.specs.Read.{partOf, runWords, flatWords}
+use Rattle.view_read.specs.Read.{partOf, runWords, shownWords, flatWords}
 use Rattle.view_read.specs.PlaceLaws.{copy-length}
 
 -- ---- the words of a run ----
 
 module _ (w : List ℕ) (r : Run) where
-  run-past : length w / 4 < r .start + r .len → [] ≡ runWords w r
+  run-past : length w / termLayout .width < r .start + r .len → [] ≡ runWords w r
   unfolding runWords partOf count
-  run-past h = rw (lt-leb (r .start + r .len) (length w / 4) h) refl
+  run-past h = rw (lt-leb (r .start + r .len) (length w / termLayout .width) h) refl
 
-  run-inside : r .start + r .len ≤ length w / 4 → take (r .len * 4) (drop (r .start * 4) w) ≡ runWords w r
+  run-inside : r .start + r .len ≤ length w / termLayout .width → take (r .len * termLayout .width) (drop (r .start * termLayout .width) w) ≡ runWords w r
   unfolding runWords partOf count
-  run-inside h = rw (le-leb (r .start + r .len) (length w / 4) h) refl
+  run-inside h = rw (le-leb (r .start + r .len) (length w / termLayout .width) h) refl
 
   -- the records of a run's words
-  run-records : r .start + r .len ≤ length w / 4 → decode termLayout (r .len) (runWords w r) ≡ decode termLayout (r .len) (drop (r .start * 4) w)
+  run-records : r .start + r .len ≤ length w / termLayout .width → decode termLayout (r .len) (runWords w r) ≡ decode termLayout (r .len) (drop (r .start * termLayout .width) w)
   run-records h =
-      ap (decode termLayout (r .len)) (sym (run-inside h)) ∙ decode-take termLayout (r .len) (drop (r .start * 4) w) (rw length-drop (omega arith))
+      ap (decode termLayout (r .len)) (sym (run-inside h)) ∙ decode-take termLayout (r .len) (drop (r .start * termLayout .width) w) (rw length-drop (omega arith))
 
 -- ---- what `flat_part` shows, by the answer ----
 
 module _ (terms work : List ℕ) {a : Answer} where
   module _ (r : Run) (e : a ≡ inStore r) where
-    pub stored-past : length terms / 4 < r .start + r .len → [] ≡ flatWords a terms work
-    unfolding flatWords
+    pub stored-past : length terms / termLayout .width < r .start + r .len → [] ≡ flatWords a terms work
+    unfolding flatWords shownBy shownWords
     stored-past h = rw e (run-past terms r h)
 
-    pub stored-inside : r .start + r .len ≤ length terms / 4 → take (r .start * 4 + r .len * 4 - r .start * 4) (drop (r .start * 4) terms) ≡ flatWords a terms work
-    unfolding flatWords
+    pub stored-inside : r .start + r .len ≤ length terms / termLayout .width
+        → take (r .start * termLayout .width + r .len * termLayout .width - r .start * termLayout .width) (drop (r .start * termLayout .width) terms) ≡ flatWords a terms work
+    unfolding flatWords shownBy shownWords
     stored-inside h =
-        let z : r .start * 4 + r .len * 4 - r .start * 4 ≡ r .len * 4 = omega arith in
+        let z : r .start * termLayout .width + r .len * termLayout .width - r .start * termLayout .width ≡ r .len * termLayout .width = omega arith in
         rw (e, z) (run-inside terms r h)
 
   module _ (n : ℕ) (e : a ≡ inWork n) where
-    pub work-past : length work / 4 < n → [] ≡ flatWords a terms work
-    unfolding flatWords
+    pub work-past : length work / termLayout .width < n → [] ≡ flatWords a terms work
+    unfolding flatWords shownBy shownWords
     work-past h = rw e (run-past work (record { start = 0; len = n }) (omega arith))
 
-    pub work-inside : n ≤ length work / 4 → take (n * 4 - 0) work ≡ flatWords a terms work
-    unfolding flatWords
+    pub work-inside : n ≤ length work / termLayout .width → take (n * termLayout .width - 0) work ≡ flatWords a terms work
+    unfolding flatWords shownBy shownWords
     work-inside h =
-        let z : n * 4 - 0 ≡ n * 4 = omega arith in
+        let z : n * termLayout .width - 0 ≡ n * termLayout .width = omega arith in
         rw (e, z) (run-inside work (record { start = 0; len = n }) (omega arith))
 
   pub refused-none : (n : ℕ) → a ≡ refused n → [] ≡ flatWords a terms work
-  unfolding flatWords
+  unfolding flatWords shownBy shownWords
   refused-none n e = rw e refl
 
 -- ---- `flat_part` after flatten ----
 
-module _ (s : Stores) (f : Field) (w : List ℕ) (u : Usable s f) where
+module _ (s : Store) (f : Field) (w : List ℕ) (u : Usable s f) where
   -- What the field holds, so many terms.
   abbrev held : List Term
   held = holds (terms s) (nodes s) f
@@ -82,7 +83,7 @@ module _ (s : Stores) (f : Field) (w : List ℕ) (u : Usable s f) where
       let (x, y) = place-shows (terms s) (nodes s) f r (rw decode-length (u .store .good)) (facts-field (nodes s) f (rw decode-length (u .low)) (u .within)) p in
       let inside : r .start + r .len ≤ length (terms s) = run-facts (length (terms s)) r y in
       let used : length (terms s) ≡ s .termsUsed = decode-length termLayout (s .termsUsed) (s .termWords) in
-      let fits : s .termsUsed * 4 ≤ length (s .termWords) = u .values .fits in
+      let fits : Lies termLayout (s .termWords) (s .termsUsed) = u .values .fits in
       let n : f .len ≡ r .len = sym held-length ∙ ap length (sym x) ∙ part-length (terms s) (r .start) (r .len) inside in
       ap (λ k. decode termLayout k (runWords (s .termWords) r)) n ∙ run-records (s .termWords) r (omega arith)
       ∙ sym (decode-part termLayout (s .termsUsed) (r .start) (r .len) (s .termWords) (omega arith)) ∙ x
@@ -97,11 +98,11 @@ module _ (s : Stores) (f : Field) (w : List ℕ) (u : Usable s f) where
 
   -- The words that `flat_part` shows after an accepted flatten are those of the field's terms.
   pub flat-shows : (place (nodes s) f ≡ scattered → f .len ≤ count termLayout w)
-      → decode termLayout (f .len) (flatWords ((afterFlatten s f w (place (nodes s) f)) .answer) (s .termWords) ((afterFlatten s f w (place (nodes s) f)) .work))
+      → decode termLayout (f .len) (flatWords (flatAnswer f (place (nodes s) f)) (s .termWords) (flatWork s f w (place (nodes s) f)))
       ≡ holds (terms s) (nodes s) f
-  unfolding afterFlatten flatWords copyAt
+  unfolding flatAnswer flatWork flatWords shownBy shownWords copyAt
   flat-shows room = by-place (place (nodes s) f) refl
     where
-      by-place : (p : Place) → place (nodes s) f ≡ p → decode termLayout (f .len) (flatWords ((afterFlatten s f w p) .answer) (s .termWords) ((afterFlatten s f w p) .work)) ≡ held
+      by-place : (p : Place) → place (nodes s) f ≡ p → decode termLayout (f .len) (flatWords (flatAnswer f p) (s .termWords) (flatWork s f w p)) ≡ held
       by-place (stored r) e = stored-shows r e
       by-place scattered e = rw e (copy-shows (room e))

@@ -8,7 +8,7 @@ use Rattle.term_spec.specs.Words.{count, write}
 use Rattle.term_spec.specs.Term.{Term, termLayout, Run as SpecRun}
 use Rattle.view_spec.specs.Read.{Place as SpecPlace, stored, scattered}
 use Rattle.calls_spec.specs.Store.{Store, capacity}
-use Rattle.calls_spec.specs.Step.{Answer, refused, built, truth, inStore, inWork, listed, After}
+use Rattle.calls_spec.specs.Step.{Answer, refused, truth, inStore, inWork, Shown, nothing, ofStore, ofWork, shownBy, After}
 use Rattle.words.specs.Records.{asRun}
 use Rattle.view_read.specs.declared.Verdict.{Verdict}
 use Rattle.view_read.specs.declared.Verdict.the-variants.{Yes, No, Refused as RefusedVerdict}
@@ -42,7 +42,7 @@ leavesWork a s w = record { answer = a; store = s; slots = []; work = w }
 
 -- A part of the words of a slice of terms, nothing if it is not all there.
 unfoldable pub partOf : Bool → List ℕ → SpecRun → List ℕ
-partOf true w r = take (r .len * 4) (drop (r .start * 4) w)
+partOf true w r = take (r .len * termLayout .width) (drop (r .start * termLayout .width) w)
 partOf false w r = []
 
 -- The words of a run in a slice of terms.
@@ -50,13 +50,14 @@ unfoldable pub runWords : List ℕ → SpecRun → List ℕ
 runWords w r = partOf (leb (r .start + r .len) (count termLayout w)) w r
 
 -- "shows a part of the term store or a part of the work buffer"
+unfoldable pub shownWords : Shown → List ℕ → List ℕ → List ℕ
+shownWords nothing terms work = []
+shownWords (ofStore r) terms work = runWords terms r
+shownWords (ofWork n) terms work = runWords work (record { start = 0; len = n })
+
+-- The words that an answer shows.
 unfoldable pub flatWords : Answer → List ℕ → List ℕ → List ℕ
-flatWords (refused n) terms work = []
-flatWords (built f) terms work = []
-flatWords (truth b) terms work = []
-flatWords (inStore r) terms work = runWords terms r
-flatWords (inWork n) terms work = runWords work (record { start = 0; len = n })
-flatWords (listed n c k) terms work = []
+flatWords a terms work = shownWords (shownBy a) terms work
 
 -- 01's number, or the run, for each case.
 unfoldable pub settledOf : Settled → Answer

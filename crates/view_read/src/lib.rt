@@ -2,15 +2,15 @@
 // equality of fields, `Flat`); refusals are the port's.
 use view::Field;
 use words::Run;
+use words::refusal;
 ghost use mathlib.Core.Path.{_≡_};
-ghost use Prim.Native.Nat.{_+_, _*_, _<_, _≤_};
-ghost use lib.ListN.{length};
-ghost use Rattle.term_spec.specs.Words.{decode};
-ghost use Rattle.term_spec.specs.Term.{termLayout};
-ghost use Rattle.view_spec.specs.Node.{nodeAt};
+ghost use Prim.Native.Nat.{_<_, _≤_};
+ghost use Rattle.term_spec.specs.Words.{Lies, decode};
+ghost use Rattle.term_spec.specs.Term.{termLayout, limit};
+ghost use Rattle.view_spec.specs.Node.{nodeLayout, nodeAt};
 ghost use Rattle.view_spec.specs.Read.{place, copy, settledRun};
 ghost use Rattle.calls_spec.specs.Step.{callStartsWith, callEqual, callFlatten, step};
-ghost use Rattle.nodes.specs.Store.{nodesIn, Store};
+ghost use Rattle.nodes.specs.NodeStore.{nodesIn, NodeStore};
 ghost use Rattle.view.specs.Check.{asField, storeOf, leaves};
 ghost use Rattle.view_read.specs.Read.{verdictOf, placeOf, flatOf, leavesWork, flatWords, settledOf, settledBy};
 
@@ -33,7 +33,9 @@ pub fn starts_with(
     f: Field,
     g: Field,
 ) -> Verdict
-    ensures { λ r. ⌜ leaves (verdictOf r) (storeOf (now (names .entry)) (now (terms .entry)) «terms_used» (now (nodes .entry)) «nodes_used») ≡ step (storeOf (now (names .entry)) (now (terms .entry)) «terms_used» (now (nodes .entry)) «nodes_used») (callStartsWith (asField f) (asField g)) ⌝ }
+    ensures { λ r.
+        let store = storeOf (now (names .entry)) (now (terms .entry)) «terms_used» (now (nodes .entry)) «nodes_used» in
+        ⌜ leaves (verdictOf r) store ≡ step store (callStartsWith (asField f) (asField g)) ⌝ }
 {
     let number = view::check(names, terms, terms_used, nodes, nodes_used, true, f, g);
     if number != 0 {
@@ -67,7 +69,9 @@ pub fn equal(
     f: Field,
     g: Field,
 ) -> Verdict
-    ensures { λ r. ⌜ leaves (verdictOf r) (storeOf (now (names .entry)) (now (terms .entry)) «terms_used» (now (nodes .entry)) «nodes_used») ≡ step (storeOf (now (names .entry)) (now (terms .entry)) «terms_used» (now (nodes .entry)) «nodes_used») (callEqual (asField f) (asField g)) ⌝ }
+    ensures { λ r.
+        let store = storeOf (now (names .entry)) (now (terms .entry)) «terms_used» (now (nodes .entry)) «nodes_used» in
+        ⌜ leaves (verdictOf r) store ≡ step store (callEqual (asField f) (asField g)) ⌝ }
 {
     let number = view::check(names, terms, terms_used, nodes, nodes_used, true, f, g);
     if number != 0 {
@@ -100,16 +104,15 @@ pub enum Place {
 }
 
 // The store when the node is one Cons with Nil tail or the length is 0.
-fn place_of(nodes: &[u32], terms: usize, used: usize, f: Field) -> Place
-    requires { ⌜ Store (now nodes) terms used ⌝ }
-    requires { ⌜ f .node < used ⌝ }
+fn place_of(nodes: &[u32], used: usize, f: Field) -> Place
+    requires { ⌜ Lies nodeLayout (now nodes) used × (f .node < used) ⌝ }
     ensures { λ r. ⌜ placeOf r ≡ place (nodesIn (now (nodes .entry)) used) (asField f) ⌝ }
 {
     if f.len == 0 {
         return Place::Stored(Run { start: 0, len: 0 });
     }
     let n = words::get_node(nodes, f.node);
-    if n.kind != 1 {
+    if n.kind != words::CONS {
         return Place::Scattered;
     }
     if n.c != 0 {
@@ -138,7 +141,9 @@ pub fn flatten(
     f: Field,
     work: &mut [u32],
 ) -> Flat
-    ensures { λ r. ⌜ leavesWork (flatOf r) (storeOf (now (names .entry)) (now (terms .entry)) «terms_used» (now (nodes .entry)) «nodes_used») (now (work .exit)) ≡ step (storeOf (now (names .entry)) (now (terms .entry)) «terms_used» (now (nodes .entry)) «nodes_used») (callFlatten (asField f) (now (work .entry))) ⌝ }
+    ensures { λ r.
+        let store = storeOf (now (names .entry)) (now (terms .entry)) «terms_used» (now (nodes .entry)) «nodes_used» in
+        ⌜ leavesWork (flatOf r) store (now (work .exit)) ≡ step store (callFlatten (asField f) (now (work .entry))) ⌝ }
 {
     let number = view::check(
         names,
@@ -153,13 +158,13 @@ pub fn flatten(
     if number != 0 {
         return Flat::Refused(number);
     }
-    match place_of(nodes, terms_used, nodes_used, f) {
+    match place_of(nodes, nodes_used, f) {
         Place::Stored(r) => Flat::InStore(r),
         Place::Scattered => {
             if work.len() / words::TERM_WIDTH < f.len {
-                return Flat::Refused(14);
+                return Flat::Refused(refusal::WORK_SHORT);
             }
-            rope::copy_out(terms, terms_used, nodes, nodes_used, f.node, f.len, work);
+            rope::copy_out(terms, nodes, nodes_used, f.node, f.len, work);
             Flat::InWork(f.len)
         }
     }
@@ -208,20 +213,26 @@ pub fn settle(
     nodes_used: usize,
     f: Field,
 ) -> Settled
-    requires { ⌜ (now «terms_used» * 4 ≤ length (now terms)) × (now «terms_used» ≤ 65536) ⌝ }
-    requires { ⌜ Store (now nodes) (now «terms_used») «nodes_used» ⌝ }
+    requires { ⌜ Lies termLayout (now terms) (now «terms_used») × (now «terms_used» ≤ limit) ⌝ }
+    requires { ⌜ NodeStore (now nodes) (now «terms_used») «nodes_used» ⌝ }
     requires { ⌜ (f .node < «nodes_used») × (f .len ≤ (nodeAt (nodesIn (now nodes) «nodes_used») (f .node)) .reach) ⌝ }
-    ensures { λ r. ⌜ (settledOf r, now (terms .exit), now («terms_used» .exit)) ≡ settledBy (now (terms .entry)) (now («terms_used» .entry)) (copy (decode termLayout (now («terms_used» .entry)) (now (terms .entry))) (nodesIn (now (nodes .entry)) «nodes_used») (asField f)) (settledRun (decode termLayout (now («terms_used» .entry)) (now (terms .entry))) (nodesIn (now (nodes .entry)) «nodes_used») (asField f)) ⌝ }
+    ensures { λ r.
+        let before = now (terms .entry) in
+        let used = now («terms_used» .entry) in
+        let ts = decode termLayout used before in
+        let ns = nodesIn (now (nodes .entry)) «nodes_used» in
+        let left = settledBy before used (copy ts ns (asField f)) (settledRun ts ns (asField f)) in
+        ⌜ (settledOf r, now (terms .exit), now («terms_used» .exit)) ≡ left ⌝ }
 {
     let used = *terms_used;
-    match place_of(nodes, used, nodes_used, f) {
+    match place_of(nodes, nodes_used, f) {
         Place::Stored(r) => Settled::At(r),
         Place::Scattered => {
-            if 65536 - used < f.len {
-                return Settled::Refused(13);
+            if words::LIMIT - used < f.len {
+                return Settled::Refused(refusal::TERMS_FULL);
             }
             if terms.len() / words::TERM_WIDTH - used < f.len {
-                return Settled::Refused(13);
+                return Settled::Refused(refusal::TERMS_FULL);
             }
             rope::copy_after(terms, used, nodes, nodes_used, f.node, f.len);
             *terms_used = used + f.len;

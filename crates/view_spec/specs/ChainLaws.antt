@@ -11,9 +11,9 @@ use Rattle.term_spec.specs.BoolLaws.{both-of}
 use Rattle.term_spec.specs.ListLaws.{All, part-length}
 use Rattle.term_spec.specs.TermLaws.{run-facts}
 use Rattle.term_spec.specs.Term.{Run, part, runRule, runsRule}
-use Rattle.view_spec.specs.Node.{Node, nodeAt, consNode, meaning}
+use Rattle.view_spec.specs.Node.{Node, nodeAt, consNode, meaning, GoodNodes}
 use Rattle.view_spec.specs.Build.{last, makeCons, ifDec, fuseHead, fuseOnto, fuse, chainHead, chain, total, parts}
-use Rattle.view_spec.specs.NodeLaws.{GoodNodes, nodes-there, nil-first, node-new, meaning-nil, made-cons, trans-grown}
+use Rattle.view_spec.specs.NodeLaws.{nodes-there, nil-first, node-new, meaning-nil, made-cons, trans-grown}
 
 -- A run that is not empty and ends within the used terms.
 pub record Fine (used : ℕ) (r : Run) : Type 0 where

@@ -11,9 +11,10 @@ use Rattle.term_spec.specs.ListLaws.{drop-left, drop-right}
 use Rattle.term_spec.specs.Table.{table}
 use Rattle.term_spec.specs.TableLaws.{table-at, table-below}
 use Rattle.term_spec.specs.Term.{limit}
-use Rattle.view_spec.specs.Node.{Node, nilNode, nodeAt, meaning}
+use Rattle.view_spec.specs.Node.{Node, nilNode, nodeAt, meaning, GoodNodes}
 use Rattle.view_spec.specs.Build.{makeConcat, ifDec, Drop, stay, cut, under, dropK, dropOf, dropPlan, dropMakes, dropNode, shrink}
-use Rattle.view_spec.specs.NodeLaws.{ConsAt, ConcatAt, NodeAt, GoodNodes, node-at, node-kept, node-some, meaning-nil, meaning-cons, meaning-concat, meaning-kept, reach-is, reach-limit, cons-length, concat-length, made-cons, made-concat, trans-grown}
+use Rattle.view_spec.specs.NodeLaws.{ConsAt, ConcatAt, NodeAt, node-at, node-kept, node-some, meaning-nil, meaning-cons, meaning-concat, meaning-kept}
+use Rattle.view_spec.specs.NodeLaws.{reach-is, reach-limit, cons-length, concat-length, made-cons, made-concat, trans-grown}
 use Rattle.view_spec.specs.PlanLaws.{left-fits}
 
 -- ---- the plan's equations, as the Rust recurses ----

@@ -9,12 +9,12 @@ use native.Mathlib.Decide.{ℕ-discrete}
 use native.Mathlib.Omega.{arith}
 use Rattle.term_spec.specs.ListLaws.{take-right, drop-take}
 use Rattle.term_spec.specs.Term.{Run, runsRule, limit}
-use Rattle.view_spec.specs.Node.{Node, Field, nodeAt, nodesRule, fieldRule, meaning, holds}
+use Rattle.view_spec.specs.Node.{Node, Field, nodeAt, nodesRule, fieldRule, meaning, holds, Piece}
 use Rattle.view_spec.specs.Build.{Built, fuse, chain, chainHead, total, parts, fromRuns, joinRight, joinPlan, joinBy, join, dropPlan, dropNode, shrink, takeField, rest, range}
 use Rattle.view_spec.specs.NodeLaws.{node-some, reach-is, field-facts, facts-field, field-fits, holds-length}
 use Rattle.view_spec.specs.ChainLaws.{fuse-fine, fuse-parts, parts-length, chain-made}
 use Rattle.view_spec.specs.PlanLaws.{unclamped}
-use Rattle.view_spec.specs.JoinLaws.{Piece, planned, grow-made}
+use Rattle.view_spec.specs.JoinLaws.{planned, grow-made}
 use Rattle.view_spec.specs.DropLaws.{dropped, shrink-made}
 
 -- Of a call over the terms xs and the nodes ns: what it leaves is good, grown from ns, and its field holds l.

@@ -8,20 +8,13 @@ use native.Mathlib.Decide.{decLe, decLt}
 use native.Mathlib.Omega.{arith}
 use Rattle.term_spec.specs.ListLaws.{take-left, take-right}
 use Rattle.term_spec.specs.Term.{limit}
-use Rattle.view_spec.specs.Node.{Node, nodeAt, concatNode, meaning}
+use Rattle.view_spec.specs.Node.{Node, nodeAt, concatNode, meaning, GoodNodes, Piece}
 use Rattle.view_spec.specs.Build.{last, makeConcat, ifDec, Plan, base, single, double, plan, grow, planMakes}
-use Rattle.view_spec.specs.NodeLaws.{ConcatAt, NodeAt, GoodNodes, node-at, node-kept, meaning-kept, meaning-concat, reach-is, reach-limit, head-length, Made, made-concat, trans-grown}
+use Rattle.view_spec.specs.NodeLaws.{ConcatAt, NodeAt, node-at, node-kept, meaning-kept, meaning-concat, reach-is, reach-limit, head-length, Made, made-concat, trans-grown}
 use Rattle.view_spec.specs.ChainLaws.{last-snoc}
 use Rattle.view_spec.specs.PlanLaws.{left, leftLen, right, innerRight, Unclamped, left-fits, unclamped, plan-leaf, plan-concat, secondTurn}
 
 -- ---- what a plan needs of the store, and the terms it is worth ----
-
--- The first len terms of node i, none missing.
-pub record Piece (ns : List Node) (i len : ℕ) : Type 0 where
-  pub below : i < length ns
-  pub some-node : 1 ≤ (nodeAt ns i) .kind
-  pub some-len : 1 ≤ len
-  pub within : len ≤ (nodeAt ns i) .reach
 
 unfoldable pub Fits : List Node → Plan → Type 0
 Fits ns (base l len) = Piece ns l len

@@ -1,9 +1,9 @@
 -- Nodes and fields: their records, their rules, and the terms they give (01, "Records" and "View fields").
 use mathlib.Core.List.{List, [], _∷_, _++_}
 use mathlib.Core.Bool.{Bool, true, false, _&&_}
-use lib.Dec.{leb, ltb, eqb}
+use lib.Dec.{T, leb, ltb, eqb}
 use lib.ListN.{length, getD, take}
-use Prim.Native.Nat.{ℕ, suc, zero, _+_, min, max}
+use Prim.Native.Nat.{ℕ, suc, zero, _+_, _≤_, _<_, min, max}
 use Rattle.term_spec.specs.Words.{Layout}
 use Rattle.term_spec.specs.Term.{part, limit}
 use Rattle.term_spec.specs.Table.{table}
@@ -25,6 +25,16 @@ nodeOf w = record { kind = getD w 0 0; a = getD w 1 0; b = getD w 2 0; c = getD 
 abbrev pub nodeLayout : Layout Node
 nodeLayout = record { width = 6; read = nodeOf; words = λ n. n .kind ∷ n .a ∷ n .b ∷ n .c ∷ n .height ∷ n .reach ∷ [] }
 
+-- The kinds of nodes: "0 Nil", "1 Cons", "2 Concat". Where a definition goes by kind, its clauses are in this order.
+abbrev pub nilKind : ℕ
+nilKind = 0
+
+abbrev pub consKind : ℕ
+consKind = 1
+
+abbrev pub concatKind : ℕ
+concatKind = 2
+
 -- "A field is a node number and a length".
 pub record Field : Type 0 where
   pub node : ℕ
@@ -36,7 +46,7 @@ emptyField = record { node = 0; len = 0 }
 
 -- "0 Nil: all words 0"
 abbrev pub nilNode : Node
-nilNode = record { kind = 0; a = 0; b = 0; c = 0; height = 0; reach = 0 }
+nilNode = record { kind = nilKind; a = 0; b = 0; c = 0; height = 0; reach = 0 }
 
 -- Node i; Nil where there is none.
 abbrev pub nodeAt : List Node → ℕ → Node
@@ -52,11 +62,11 @@ heightOf ns a c = suc (max ((nodeAt ns a) .height) ((nodeAt ns c) .height))
 
 -- The records that are made: a Cons of the run (a, b) before tail c; a Concat of the first b terms of a before c.
 abbrev pub consNode : List Node → ℕ → ℕ → ℕ → Node
-consNode ns a b c = record { kind = 1; a = a; b = b; c = c; height = 1; reach = reachOf ns b c }
+consNode ns a b c = record { kind = consKind; a = a; b = b; c = c; height = 1; reach = reachOf ns b c }
 
 -- A Concat of the first b terms of a, before c.
 abbrev pub concatNode : List Node → ℕ → ℕ → ℕ → Node
-concatNode ns a b c = record { kind = 2; a = a; b = b; c = c; height = heightOf ns a c; reach = reachOf ns b c }
+concatNode ns a b c = record { kind = concatKind; a = a; b = b; c = c; height = heightOf ns a c; reach = reachOf ns b c }
 
 -- ---- rules; `below` are the lower nodes, so a node's own number is their length ----
 
@@ -98,9 +108,20 @@ eachNode used below (n ∷ ns) = nodeRule used below n && eachNode used (below +
 unfoldable pub nodesRule : ℕ → List Node → Bool
 nodesRule used ns = leb 1 (length ns) && eachNode used [] ns
 
+-- A store of nodes within its rule.
+abbrev pub GoodNodes : ℕ → List Node → Type 0
+GoodNodes used ns = T (nodesRule used ns)
+
 -- "the length at most the node's reach" (4 BadField otherwise).
 unfoldable pub fieldRule : List Node → Field → Bool
 fieldRule ns f = ltb (f .node) (length ns) && leb (f .len) ((nodeAt ns (f .node)) .reach)
+
+-- The first len terms, at least one, of node i, none missing.
+pub record Piece (ns : List Node) (i len : ℕ) : Type 0 where
+  pub below : i < length ns
+  pub some-node : 1 ≤ (nodeAt ns i) .kind
+  pub some-len : 1 ≤ len
+  pub within : len ≤ (nodeAt ns i) .reach
 
 -- ---- meaning, over a list xs that has an entry for each term ----
 

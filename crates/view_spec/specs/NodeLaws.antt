@@ -14,7 +14,8 @@ use Rattle.term_spec.specs.Table.{table}
 use Rattle.term_spec.specs.TableLaws.{table-append, table-length, table-at, table-kept}
 use Rattle.term_spec.specs.Term.{limit}
 use Rattle.term_spec.specs.WordsLaws.{Lays}
-use Rattle.view_spec.specs.Node.{nodeOf, nodeLayout, Node, Field, nilNode, nodeAt, reachOf, heightOf, consNode, concatNode, nilRule, consRule, concatRule, nodeRuleK, nodeRule, eachNode, nodesRule, fieldRule, meaningK, meaningOf, meanings, meaning, holds}
+use Rattle.view_spec.specs.Node.{nodeOf, nodeLayout, Node, Field, nilNode, nodeAt, reachOf, heightOf, consNode, concatNode, GoodNodes}
+use Rattle.view_spec.specs.Node.{nilRule, consRule, concatRule, nodeRuleK, nodeRule, eachNode, nodesRule, fieldRule, meaningK, meaningOf, meanings, meaning, holds}
 use Rattle.view_spec.specs.Build.{makeCons, makeConcat}
 
 -- A node's words are as many as its width, and mean the node.
@@ -65,9 +66,6 @@ ConcatAt ns i = ConcatFacts ns i (nodeAt ns i)
 
 abbrev pub NodeAt : ℕ → List Node → ℕ → Type 0
 NodeAt used ns i = NodeFacts used ns i (nodeAt ns i)
-
-abbrev pub GoodNodes : ℕ → List Node → Type 0
-GoodNodes used ns = T (nodesRule used ns)
 
 six-tests : (a b c d e f : Bool) → T (a && b && c && d && e && f) ↔ (T a × T b × T c × T d × T e × T f)
 six-tests a b c d e f = (

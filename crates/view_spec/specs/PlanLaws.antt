@@ -10,9 +10,9 @@ use native.Mathlib.Omega.{arith}
 use Rattle.term_spec.specs.ListLaws.{take-left}
 use Rattle.term_spec.specs.Table.{table}
 use Rattle.term_spec.specs.TableLaws.{table-at, table-below}
-use Rattle.view_spec.specs.Node.{Node, nilNode, nodeAt, meaning}
+use Rattle.view_spec.specs.Node.{Node, nilNode, nodeAt, meaning, GoodNodes}
 use Rattle.view_spec.specs.Build.{ifDec, unclampK, unclampOf, unclamp, Plan, base, single, double, secondK, planK, planOf, plan}
-use Rattle.view_spec.specs.NodeLaws.{ConcatAt, NodeAt, GoodNodes, node-at, meaning-concat, reach-is}
+use Rattle.view_spec.specs.NodeLaws.{ConcatAt, NodeAt, node-at, meaning-concat, reach-is}
 
 -- A Concat's left, the terms of it that are meant, and its right.
 abbrev pub left : List Node → ℕ → ℕ

@@ -7,10 +7,10 @@ use lib.ListN.{length, length-drop}
 use Prim.Native.Nat.{ℕ, suc, zero, _+_, _-_, _≤_, _<_}
 use native.Mathlib.Decide.{ℕ-discrete, decLt}
 use native.Mathlib.Omega.{arith}
-use Rattle.view_spec.specs.Node.{Node, Field, nodeAt, nodesRule, fieldRule, meaning}
+use Rattle.view_spec.specs.Node.{Node, Field, nodeAt, nodesRule, fieldRule, meaning, GoodNodes}
 use Rattle.view_spec.specs.Build.{Drop, dropPlan, dropNode, shrink, stay, under, rest}
 use Rattle.view_spec.specs.RustDrop.{Rested, rustUnder, rustMatch, rustDrop}
-use Rattle.view_spec.specs.NodeLaws.{ConcatAt, NodeAt, GoodNodes, node-at, node-some, meaning-nil, reach-is, cons-length, concat-length, field-facts, field-fits}
+use Rattle.view_spec.specs.NodeLaws.{ConcatAt, NodeAt, node-at, node-some, meaning-nil, reach-is, cons-length, concat-length, field-facts, field-fits}
 use Rattle.view_spec.specs.PlanLaws.{if-yes, if-no, if-both, left-fits}
 use Rattle.view_spec.specs.DropLaws.{drop-zero, drop-cons, drop-concat, dropped, shrink-made, shrink-length}
 

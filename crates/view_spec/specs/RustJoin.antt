@@ -1,11 +1,31 @@
--- The Rust's join (value.rs, `fn join`), statement by statement, over nodes that are numbered as they are made. It bounds the recursion
--- by a number, which RustJoinLaws shows to suffice.
+-- The Rust's join and unclamp (value.rs, `fn join`, `fn unclamp`), statement by statement, over nodes that are numbered as they are made.
+-- Loop and recursion are bounded by numbers, which RustJoinLaws shows to suffice.
 use mathlib.Core.List.{List}
 use lib.ListN.{length}
 use Prim.Native.Nat.{ℕ, suc, zero, _+_, _-_}
 use native.Mathlib.Decide.{ℕ-discrete, decLt, decLe}
 use Rattle.view_spec.specs.Node.{Node, nodeAt}
-use Rattle.view_spec.specs.Build.{makeConcat, ifDec, unclamp}
+use Rattle.view_spec.specs.Build.{makeConcat, ifDec}
+
+-- unclamp's loop from one node on: the nodes, the node, the length. The node that it hands back.
+abbrev pub UnclampLoop : Type 0
+UnclampLoop = List Node → ℕ → ℕ → ℕ
+
+-- One round, by the kind of the node: a node that is no Concat ends the loop, and so does a Concat whose left is shorter than the length;
+-- else the next round is at its left.
+unfoldable pub rustRound : ℕ → UnclampLoop → UnclampLoop
+rustRound zero loop ns i len = i
+rustRound (suc zero) loop ns i len = i
+rustRound (suc (suc k)) loop ns i len = ifDec (decLt ((nodeAt ns i) .b) len) i (loop ns ((nodeAt ns i) .a) len)
+
+-- At most so many rounds.
+unfoldable pub rustRounds : ℕ → UnclampLoop
+rustRounds zero ns i len = i
+rustRounds (suc f) ns i len = rustRound ((nodeAt ns i) .kind) (rustRounds f) ns i len
+
+-- unclamp. A left is lower than its Concat, so there are at most as many rounds as nodes up to i.
+unfoldable pub rustUnclamp : UnclampLoop
+rustUnclamp ns i len = rustRounds (suc i) ns i len
 
 -- The nodes, and the node handed back.
 abbrev pub Joined : Type 0
@@ -43,7 +63,8 @@ rustSingle (suc (suc j)) rec ns l n r k =
     ifDec (decLt ((nodeAt ns l) .b) n)
     (ifDec (decLe ((nodeAt ns ((nodeAt ns l) .c)) .height) ((nodeAt ns ((nodeAt ns l) .a)) .height))
     (rustOuter ((nodeAt ns l) .a) ((nodeAt ns l) .b) (rec ns ((nodeAt ns l) .c) (n - (nodeAt ns l) .b) r k))
-    (rustDouble ((nodeAt ns (unclamp ns ((nodeAt ns l) .c) (n - (nodeAt ns l) .b))) .kind) rec ns l (unclamp ns ((nodeAt ns l) .c) (n - (nodeAt ns l) .b)) n r k))
+    (rustDouble ((nodeAt ns (rustUnclamp ns ((nodeAt ns l) .c) (n - (nodeAt ns l) .b))) .kind) rec ns l
+    (rustUnclamp ns ((nodeAt ns l) .c) (n - (nodeAt ns l) .b)) n r k))
     (rustConcat ns l n r)
 
 -- Whether a turn is tried at all: the left is more than one taller than the right, both unclamped.
@@ -54,4 +75,4 @@ rustTurn rec ns l n r k = ifDec (decLt (suc ((nodeAt ns r) .height)) ((nodeAt ns
 unfoldable pub rustJoin : ℕ → Recursion
 rustJoin zero ns l n r k = (ns, l)
 rustJoin (suc f) ns l n r k =
-    ifDec (ℕ-discrete n 0) (ns, r) (ifDec (ℕ-discrete k 0) (ns, l) (rustTurn (rustJoin f) ns (unclamp ns l n) n (unclamp ns r k) k))
+    ifDec (ℕ-discrete n 0) (ns, r) (ifDec (ℕ-discrete k 0) (ns, l) (rustTurn (rustJoin f) ns (rustUnclamp ns l n) n (rustUnclamp ns r k) k))

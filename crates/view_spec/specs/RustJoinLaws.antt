@@ -10,18 +10,51 @@ use native.Mathlib.Decide.{ℕ-discrete, decLe, decLt}
 use native.Mathlib.Omega.{arith}
 use Rattle.term_spec.specs.Table.{table}
 use Rattle.term_spec.specs.TableLaws.{table-kept, table-length}
-use Rattle.view_spec.specs.Node.{Node, Field, nodeAt, concatNode, nodesRule, fieldRule}
+use Rattle.view_spec.specs.Node.{Node, Field, nodeAt, concatNode, nodesRule, fieldRule, GoodNodes, Piece}
 use Rattle.view_spec.specs.Build.{last, makeConcat, ifDec, unclampOf, unclamp, Plan, base, single, double, plan, grow, joinBy, join}
-use Rattle.view_spec.specs.RustJoin.{Joined, rustConcat, rustOuter, rustDouble, rustSingle, rustTurn, rustJoin}
-use Rattle.view_spec.specs.NodeLaws.{ConcatAt, NodeAt, GoodNodes, node-at, node-kept, made-concat}
+use Rattle.view_spec.specs.RustJoin.{Joined, rustRound, rustRounds, rustUnclamp, rustConcat, rustOuter, rustDouble, rustSingle, rustTurn, rustJoin}
+use Rattle.view_spec.specs.NodeLaws.{ConcatAt, NodeAt, node-at, node-kept, made-concat}
 use Rattle.view_spec.specs.ChainLaws.{last-snoc}
-use Rattle.view_spec.specs.PlanLaws.{left, leftLen, right, innerRight, if-yes, if-no, if-both, unclamp-induct, Unclamped, unclamped, unclamp-over, unclamp-twice, inner-low, plan-leaf, plan-concat, secondTurn}
-use Rattle.view_spec.specs.JoinLaws.{Piece, piece-kept}
+use Rattle.view_spec.specs.PlanLaws.{left, leftLen, right, innerRight, if-yes, if-no, if-both}
+use Rattle.view_spec.specs.PlanLaws.{unclamp-leaf, unclamp-concat, unclamp-induct, Unclamped, unclamped, unclamp-over, unclamp-twice, inner-low, plan-leaf, plan-concat, secondTurn}
+use Rattle.view_spec.specs.JoinLaws.{piece-kept}
 use Rattle.view_spec.specs.FieldLaws.{field-piece}
 
 -- The nodes that a plan makes, and the node that is the join.
 unfoldable pub planDone : List Node → ℕ → Plan → Joined
 planDone ns r p = (grow r p ns, last (grow r p ns))
+
+-- ---- unclamp ----
+
+round-leaf : (k f : ℕ) (ns : List Node) (i len : ℕ) → k ≤ 1 → rustRound k (rustRounds f) ns i len ≡ i
+unfolding rustRound
+round-leaf zero f ns i len h = refl
+round-leaf (suc zero) f ns i len h = refl
+round-leaf (suc (suc k)) f ns i len h = absurd (omega arith)
+
+-- A bound above the node's number suffices.
+rounds-same : (used : ℕ) (ns : List Node) (len : ℕ) → GoodNodes used ns → (f i : ℕ) → i < f → i < length ns → rustRounds f ns i len ≡ unclamp ns i len
+unfolding rustRounds rustRound
+rounds-same used ns len g zero i h lt = absurd (omega arith)
+rounds-same used ns len g (suc f) i h lt = go (rounds-same used ns len g f) (node-at used ns i g lt)
+  where
+    leaf : (nodeAt ns i) .kind ≤ 1 → rustRound ((nodeAt ns i) .kind) (rustRounds f) ns i len ≡ unclamp ns i len
+    leaf k = round-leaf ((nodeAt ns i) .kind) f ns i len k ∙ sym (unclamp-leaf ns i len lt k)
+
+    go : ((j : ℕ) → j < f → j < length ns → rustRounds f ns j len ≡ unclamp ns j len) → NodeAt used ns i
+        → rustRound ((nodeAt ns i) .kind) (rustRounds f) ns i len ≡ unclamp ns i len
+    go rec (inl m) = leaf (omega arith)
+    go rec (inr (inl m)) = leaf (omega arith)
+    go rec (inr (inr m)) =
+        rw (m .kind2) (if-both (λ z. unclamp ns i len) (decLt (leftLen ns i) len) _ _ i i
+        (λ y. sym (unclamp-concat ns i len lt m ∙ if-no (decLe len (leftLen ns i)) _ _ (λ z. omega arith)))
+        (λ y. rec (left ns i) (omega arith) (omega arith)
+        ∙ sym (unclamp-concat ns i len lt m ∙ if-yes (decLe len (leftLen ns i)) _ _ (omega arith))))
+
+-- The Rust's unclamp is Build's.
+pub rust-unclamp : (used : ℕ) (ns : List Node) (i len : ℕ) → GoodNodes used ns → i < length ns → rustUnclamp ns i len ≡ unclamp ns i len
+unfolding rustUnclamp
+rust-unclamp used ns i len g lt = rounds-same used ns len g (suc i) i (omega arith) lt
 
 -- ---- unclamp and plan over more nodes ----
 
@@ -209,9 +242,10 @@ module _ {X : Type 0} (xs : List X) where
       um : Unclamped xs ns (right ns l) (n - leftLen ns l) (innerRight ns l n)
       um = unclamped xs ns g (right ns l) (n - leftLen ns l) (q .below) (q .some-node) (q .within)
 
-      two : rustDouble ((nodeAt ns (innerRight ns l n)) .kind) (rustJoin f) ns l (innerRight ns l n) n r k
+      two : rustDouble ((nodeAt ns (rustUnclamp ns (right ns l) (n - leftLen ns l))) .kind) (rustJoin f) ns l (rustUnclamp ns (right ns l) (n - leftLen ns l)) n r k
           ≡ planDone ns r (secondTurn ((nodeAt ns (innerRight ns l n)) .kind) ns ((nodeAt ns r) .height) l (innerRight ns l n) n)
-      two = double-same f eq ns l (innerRight ns l n) n r k g lt pl pr u o bl um
+      two = ap (λ m. rustDouble ((nodeAt ns m) .kind) (rustJoin f) ns l m n r k) (rust-unclamp (length xs) ns (right ns l) (n - leftLen ns l) g (q .below))
+          ∙ double-same f eq ns l (innerRight ns l n) n r k g lt pl pr u o bl um
           (node-at (length xs) ns (innerRight ns l n) g (omega (arith, um .lower, q .below)))
 
   -- A bound above the left node's number suffices.
@@ -224,6 +258,7 @@ module _ {X : Type 0} (xs : List X) where
       let ll : unclamp ns l n < length ns = omega (arith, ul .lower, pl .below) in
       let rl : unclamp ns r k < length ns = omega (arith, ur .lower, pr .below) in
       if-no (ℕ-discrete n 0) _ _ (λ e. omega (arith, pl .some-len)) ∙ if-no (ℕ-discrete k 0) _ _ (λ e. omega (arith, pr .some-len))
+      ∙ ap₂ (λ x y. rustTurn (rustJoin f) ns x n y k) (rust-unclamp (length xs) ns l n g (pl .below)) (rust-unclamp (length xs) ns r k g (pr .below))
       ∙ turn-same f (rust-plan f) ns (unclamp ns l n) n (unclamp ns r k) k g (omega (arith, ul .lower))
       (record { below = ll; some-node = ul .some-node; some-len = pl .some-len; within = ul .within })
       (record { below = rl; some-node = ur .some-node; some-len = pr .some-len; within = ur .within })
@@ -237,7 +272,7 @@ module _ {X : Type 0} (xs : List X) where
   rust-join f g ns gn hf hg = by (ℕ-discrete (f .len) 0) (ℕ-discrete (g .len) 0)
     where
       turn : Joined
-      turn = rustTurn (rustJoin (f .node)) ns (unclamp ns (f .node) (f .len)) (f .len) (unclamp ns (g .node) (g .len)) (g .len)
+      turn = rustTurn (rustJoin (f .node)) ns (rustUnclamp ns (f .node) (f .len)) (f .len) (rustUnclamp ns (g .node) (g .len)) (g .len)
 
       by : (d : Dec (f .len ≡ 0)) (d′ : Dec (g .len ≡ 0))
           → ifDec d (ns, g .node) (ifDec d′ (ns, f .node) turn) ≡ ((joinBy d d′ f g ns) .nodes, ((joinBy d d′ f g ns) .field) .node)

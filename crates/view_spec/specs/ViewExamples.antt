@@ -14,7 +14,7 @@ use Rattle.view_spec.specs.Build.{Built, ifDec, fuseHead, fuseOnto, fuse
 use Rattle.view_spec.specs.Build.{unclampK, unclampOf, unclamp, secondK, planK, planOf, plan, grow, joinBy, join}
 use Rattle.view_spec.specs.Build.{dropK, dropOf, dropPlan, dropMakes, dropNode, shrink, takeField, rest, range}
 use Rattle.view_spec.specs.Read.{Place, stored, scattered, place, copyAt, copy, settledAt, settledRun, equalTerms, startsWith}
-use Rattle.view_spec.specs.RustJoin.{rustConcat, rustOuter, rustDouble, rustSingle, rustTurn, rustJoin}
+use Rattle.view_spec.specs.RustJoin.{rustRound, rustRounds, rustUnclamp, rustConcat, rustOuter, rustDouble, rustSingle, rustTurn, rustJoin}
 use Rattle.view_spec.specs.RustDrop.{rustUnder, rustMatch, rustDrop}
 
 -- Kind, a, b, c, height, reach.
@@ -218,7 +218,7 @@ joins-by-plan = refl
 
 joins-in-rust : map (λ j. rustJoin (suc ((j .left) .node)) rope ((j .left) .node) ((j .left) .len) ((j .right) .node) ((j .right) .len)) joined
     ≡ map (λ j. (rope ++ j .made, j .answer)) joined
-unfolding rustJoin rustTurn rustSingle rustDouble rustOuter rustConcat unclamp unclampOf unclampK ifDec table ℕ-discrete decLe decLt
+unfolding rustJoin rustTurn rustSingle rustDouble rustOuter rustConcat rustUnclamp rustRounds rustRound ifDec ℕ-discrete decLe decLt
 joins-in-rust = refl
 
 -- ---- rest, range, take ----

@@ -1,9 +1,11 @@
 // Records of words in lent slices, as structs by value. `word` and `set_word` alone see words and casts.
+pub mod refusal;
+
 ghost use mathlib.Core.Path.{_≡_};
 ghost use mathlib.Core.List.{[], _∷_};
 ghost use Prim.Native.Nat.{_+_, _*_, _<_, _≤_, _^_};
 ghost use lib.ListN.{length, getD, set};
-ghost use Rattle.term_spec.specs.Words.{recordAt, write};
+ghost use Rattle.term_spec.specs.Words.{Lies, recordAt, write};
 ghost use Rattle.term_spec.specs.Term.{termLayout, runLayout};
 ghost use Rattle.view_spec.specs.Node.{nodeLayout};
 ghost use Rattle.words.specs.Records.{asTerm, Small, asNode, SmallNode, asRun};
@@ -31,6 +33,30 @@ pub struct Run {
     pub start: usize,
     pub len: usize,
 }
+
+// "At most 65,536 terms", nodes, name bytes, and terms in a field.
+pub const LIMIT: usize = 65536;
+
+// The kinds of terms.
+pub const CHAR: usize = 0;
+
+pub const IDENTIFIER: usize = 1;
+
+pub const NUMBER: usize = 2;
+
+pub const BRACKET: usize = 3;
+
+pub const UNKNOWN: usize = 4;
+
+// The last of what an unknown may stand for: a symbol (0), a term (1), an expression (2).
+pub const EXPRESSION: usize = 2;
+
+// The kinds of nodes.
+pub const NIL: usize = 0;
+
+pub const CONS: usize = 1;
+
+pub const CONCAT: usize = 2;
 
 // The widths of a term record, of a node record and of a run, in words.
 pub const TERM_WIDTH: usize = 4;
@@ -63,7 +89,7 @@ pub fn set_word(words: &mut [u32], p: usize, x: usize)
 
 // Term i.
 pub fn get_term(terms: &[u32], i: usize) -> Term
-    requires { ⌜ i * 4 + 4 ≤ length (now terms) ⌝ }
+    requires { ⌜ Lies termLayout (now terms) (i + 1) ⌝ }
     ensures { λ r. ⌜ asTerm r ≡ recordAt termLayout (now (terms .entry)) i ⌝ }
 {
     let p = i * TERM_WIDTH;
@@ -77,7 +103,7 @@ pub fn get_term(terms: &[u32], i: usize) -> Term
 
 // t becomes term i.
 pub fn put_term(terms: &mut [u32], i: usize, t: Term)
-    requires { ⌜ (i * 4 + 4 ≤ length (now terms)) × Small t ⌝ }
+    requires { ⌜ (Lies termLayout (now terms) (i + 1)) × Small t ⌝ }
     ensures { λ _. ⌜ now (terms .exit) ≡ write termLayout (now (terms .entry)) i (asTerm t ∷ []) ⌝ }
 {
     let p = i * TERM_WIDTH;
@@ -89,7 +115,7 @@ pub fn put_term(terms: &mut [u32], i: usize, t: Term)
 
 // Node i.
 pub fn get_node(nodes: &[u32], i: usize) -> Node
-    requires { ⌜ i * 6 + 6 ≤ length (now nodes) ⌝ }
+    requires { ⌜ Lies nodeLayout (now nodes) (i + 1) ⌝ }
     ensures { λ r. ⌜ asNode r ≡ recordAt nodeLayout (now (nodes .entry)) i ⌝ }
 {
     let p = i * NODE_WIDTH;
@@ -105,7 +131,7 @@ pub fn get_node(nodes: &[u32], i: usize) -> Node
 
 // n becomes node i.
 pub fn put_node(nodes: &mut [u32], i: usize, n: Node)
-    requires { ⌜ (i * 6 + 6 ≤ length (now nodes)) × SmallNode n ⌝ }
+    requires { ⌜ (Lies nodeLayout (now nodes) (i + 1)) × SmallNode n ⌝ }
     ensures { λ _. ⌜ now (nodes .exit) ≡ write nodeLayout (now (nodes .entry)) i (asNode n ∷ []) ⌝ }
 {
     let p = i * NODE_WIDTH;
@@ -119,7 +145,7 @@ pub fn put_node(nodes: &mut [u32], i: usize, n: Node)
 
 // Run i of a list of runs.
 pub fn get_run(runs: &[u32], i: usize) -> Run
-    requires { ⌜ i * 2 + 2 ≤ length (now runs) ⌝ }
+    requires { ⌜ Lies runLayout (now runs) (i + 1) ⌝ }
     ensures { λ r. ⌜ asRun r ≡ recordAt runLayout (now (runs .entry)) i ⌝ }
 {
     let p = i * RUN_WIDTH;

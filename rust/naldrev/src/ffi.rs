@@ -93,26 +93,26 @@ pub(crate) struct NodesMut<'a> {
 /// A node and a length.
 pub(crate) type Pair = (usize, usize);
 
-/// What a call told: its values, or the refusal.
-fn told<T>(number: usize, values: T) -> Result<T, Refusal> {
+/// What a call answered: its values, or the refusal.
+fn answered<T>(number: usize, values: T) -> Result<T, Refusal> {
     match number {
         0 => Ok(values),
         n => Err(Refusal::of(n)),
     }
 }
 
-/// What a call that builds told.
+/// What a call that builds answered.
 fn built(call: impl FnOnce(&mut usize, &mut usize) -> usize) -> Result<Pair, Refusal> {
     let (mut node, mut len) = (0, 0);
     let number = call(&mut node, &mut len);
-    told(number, (node, len))
+    answered(number, (node, len))
 }
 
-/// What a call that compares told.
+/// What a call that compares answered.
 fn compared(call: impl FnOnce(&mut usize) -> usize) -> Result<bool, Refusal> {
     let mut yes = 0;
     let number = call(&mut yes);
-    told(number, yes == 1)
+    answered(number, yes == 1)
 }
 
 pub(crate) fn from_runs(t: Terms, n: NodesMut, runs: &[u32]) -> Result<Pair, Refusal> {
@@ -220,7 +220,7 @@ pub(crate) fn flatten(t: Terms, n: Nodes, field: Pair, work: &mut [u32]) -> Resu
             field.1, work.as_mut_ptr(), work.len(), &mut in_work, &mut start, &mut count,
         )
     };
-    told(number, (in_work == 1, start, count))
+    answered(number, (in_work == 1, start, count))
 }
 
 /// What the two matching calls are lent besides the names.
@@ -254,7 +254,7 @@ pub(crate) fn matching(names: &[u8], r: Request, head: bool) -> Result<Listed, R
         )
     };
     let more = number == 15;
-    told(if more { 0 } else { number }, Listed { count, entries, more })
+    answered(if more { 0 } else { number }, Listed { count, entries, more })
 }
 
 /// The names of pattern and bindings together; 0 where a listing refuses them.
@@ -282,7 +282,7 @@ pub(crate) fn read_sheet(text: &[u8], terms: &mut [u32], pattern: &mut [u32], ru
             runs.len(), &mut c.terms, &mut c.name_start, &mut c.names, &mut c.pattern, &mut c.runs,
         )
     };
-    told(number, c)
+    answered(number, c)
 }
 
 /// The bytes written.
@@ -295,7 +295,7 @@ pub(crate) fn write_sheet(terms: &[u32], names: &[u8], pattern: &[u32], runs: &[
             out.as_mut_ptr(), out.len(), &mut written,
         )
     };
-    told(number, written)
+    answered(number, written)
 }
 
 /// The bytes written.
@@ -303,5 +303,5 @@ pub(crate) fn run_sheet(text: &[u8], out: &mut [u8]) -> Result<usize, Refusal> {
     let mut written = 0;
     // SAFETY: every pointer and length is of one slice or reference; those for writing are `&mut`, so they overlap nothing.
     let number = unsafe { naldrev_run_sheet(text.as_ptr(), text.len(), out.as_mut_ptr(), out.len(), &mut written) };
-    told(number, written)
+    answered(number, written)
 }

@@ -1,16 +1,17 @@
 -- `equal_terms_known` and `equal_runs_known`, which call each other: bracket depth falls, by two for each bracket entered. Each exit is one law
 -- of equality, and the table remembers at each; the loop's invariant says so of the runs without their first k terms.
-use mathlib.Core.Path.{_≡_, sym, _∙_}
+use mathlib.Core.Path.{sym, _∙_}
 use Prim.Native.Nat.{ℕ, _+_, _-_, _*_, _<_}
 use native.Mathlib.Omega.{arith}
 use borrow.Author.Needs.{needs}
 use borrow.Author.Tests.{not-true, not-false}
 use borrow.Fn.Kinds.{In}
 use borrow.Fn.PlainCycle.{Measures, is, falls, and}
-use Rattle.value.specs.Equal.{equalRuns}
-use Rattle.value.specs.EqualLaws.{depthAt, deepestIn, depth-inside, texts-at, contents-below, contents-shallow, at-differ, at-symbols, at-brackets, runs-lengths, runs-same, runsFrom, runs-all, runs-more, runs-none}
-use Rattle.equality.specs.Known.{formAt, Remembers}
+use Rattle.value.specs.EqualLaws.{depthAt, deepestIn, depth-inside, runs-lengths, runs-same, runsFrom, runs-all, runs-none}
+use Rattle.words.specs.Records.{asTerm, asRun}
+use Rattle.equality.specs.Known.{TermsIn, RunsIn, sameRuns, formAt, Remembers, Decided}
 use Rattle.equality.specs.KnownLaws.{known-kept, known-equal, known-linked}
+use Rattle.equality.specs.TwoLaws.{Two, two-differ, two-texts, two-symbols, two-brackets, two-contents, two-shallow, terms-inside, runs-next}
 use Rattle.equality.proofs.equal_runs_known.Reads as runs
 use Rattle.equality.proofs.equal_runs_known.Kinds as runs-kinds
 use Rattle.equality.proofs.+equal_runs_known+equal_terms_known.Lts-equal_runs_known as runs-lts
@@ -25,10 +26,10 @@ use Rattle.equality.proofs.+equal_runs_known+equal_terms_known.{stateme
 use Rattle.equality.proofs.+equal_runs_known+equal_terms_known.Tie.{close}
 
 abbrev μ-runs : Measures 3 runs-kinds.ps ℕ
-μ-runs κs a = 2 * deepestIn (a .1 .0 .now) (a .1 .1 .0) (a .1 .1 .1 .0) (a .1 .1 .1 .1 .0) + 1
+μ-runs κs a = 2 * deepestIn (a .1 .0 .now) (a .1 .1 .0 .start) (a .1 .1 .0 .len) + 1
 
 abbrev μ-terms : Measures 3 terms-kinds.ps ℕ
-μ-terms κs a = 2 * depthAt (a .1 .0 .now) (a .1 .1 .1 .0)
+μ-terms κs a = 2 * depthAt (a .1 .0 .now) (a .1 .1 .0)
 
 -- what each is given at the measure t, and what a call of it asks below t
 abbrev runs-at : ℕ → In 3 runs-kinds.ps
@@ -48,122 +49,214 @@ abbrev Runs : ℕ → runs-lts.Claims
 Runs t = (terms-below t, terms.Post)
 
 abbrev Terms : ℕ → terms-lts.Claims
-Terms t = (get-term-reads.Asked, get-term-reads.Learnt, equal-symbols-reads.Asked, equal-symbols-reads.Learnt, lowest-known-reads.Asked, lowest-known-reads.Learnt, runs-below t, runs.Post, link-reads.Asked, link-reads.Learnt)
+Terms t = (
+  get-term-reads.Asked,
+  get-term-reads.Learnt,
+  equal-symbols-reads.Asked,
+  equal-symbols-reads.Learnt,
+  lowest-known-reads.Asked,
+  lowest-known-reads.Learnt,
+  runs-below t,
+  runs.Post,
+  link-reads.Asked,
+  link-reads.Learnt,
+)
 
 abbrev Inv-loop : runs-lts.InvT-loop
-Inv-loop names terms used s n p m known₀ k₀ known k =
-    (equalRuns names terms used s n p m ≡ runsFrom names terms used s n p k) × Remembers (formAt names terms used) known
+Inv-loop names terms first second known₀ k₀ known k =
+    (used : ℕ) → RunsIn names terms (asRun first) (asRun second) used → Remembers (formAt names terms used) known₀
+    → Decided names terms known used (sameRuns names terms used (asRun first) (asRun second)) (runsFrom names terms used (first .start) (first .len) (second .start) k)
 
 abbrev μ-loop : runs-lts.MeasureT-loop
-μ-loop names terms used s n p m known₀ k₀ known k = n - k
+μ-loop names terms first second known₀ k₀ known k = first .len - k
+
+-- ---- runs ----
 
 runs-returns : (t : ℕ) → runs-lts.Need-returns (Runs t) (runs-at t) runs.Post Inv-loop μ-loop
-runs-returns t c = (runs-lengths _ _ _ _ _ _ _ (search needs) (search needs) (search needs), c .before .before .before .pre .1 .1 .1)
+runs-returns t c used lies kept =
+    record { right = runs-lengths _ _ used _ _ _ _ (lies .first) (lies .second) (λ e. omega (arith, c .if1 .taken)); kept = kept }
 
 runs-returns-2 : (t : ℕ) → runs-lts.Need-returns-2 (Runs t) (runs-at t) runs.Post Inv-loop μ-loop
-runs-returns-2 t c = (runs-same _ _ _ _ _ _ _ (search needs) (search needs), c .before .before .before .before .pre .1 .1 .1)
+runs-returns-2 t c used lies kept =
+    record { right = runs-same _ _ used _ _ _ _ (sym (c .before .before .before .if1 .left)) (sym (c .if2 .taken)); kept = kept }
 
 runs-loop-holds : (t : ℕ) → runs-lts.Need-loop-holds (Runs t) (runs-at t) runs.Post Inv-loop μ-loop
-runs-loop-holds t c = (runs-all _ _ _ _ _ _ _ (search needs), c .before .before .before .before .pre .1 .1 .1)
-
-runs-add-equal-terms-known : (t : ℕ) → runs-lts.Need-add-equal-terms-known (Runs t) (runs-at t) runs.Post Inv-loop μ-loop
-runs-add-equal-terms-known t c = search needs
-
-runs-add-equal-terms-known-2 : (t : ℕ) → runs-lts.Need-add-equal-terms-known-2 (Runs t) (runs-at t) runs.Post Inv-loop μ-loop
-runs-add-equal-terms-known-2 t c = search needs
+runs-loop-holds t c used lies kept = record { right = runs-all _ _ used _ _ _ _ (sym (c .before .before .before .if1 .left)); kept = kept }
 
 runs-equal-terms-known-requires : (t : ℕ) → runs-lts.Need-equal-terms-known-requires (Runs t) (runs-at t) runs.Post Inv-loop μ-loop
 runs-equal-terms-known-requires t c κs =
-    let a = c .before .before .before .before .before .before .before in
-    (omega (arith, depth-inside (a .args .terms .now) _ _ _ _ (c .before .loop-test .taken) (a .pre .1 .1 .0 .0)), (a .pre .1 .0, (search needs, c .before .before .loop .inv .1)))
+    let at-test = c .before .before .before in
+    let at-loop = at-test .before .before in
+    let at-if1 = at-loop .before .before .before .before in
+    let at-start = at-if1 .before .before .before .before .before in
+    let asked = at-start .pre .1 in
+    let lies = asked .1 .0 in (
+      omega (arith, at-start .pre .0, depth-inside (at-start .args .terms .now) (at-start .args .first .start) _ _ (at-test .if3 .taken)),
+      (asked .0, (terms-inside lies (sym (at-if1 .if1 .left)) (at-test .if3 .taken), (at-loop .loop .inv _ lies (asked .1 .1)) .kept)),
+    )
 
 runs-returns-3 : (t : ℕ) → runs-lts.Need-returns-3 (Runs t) (runs-at t) runs.Post Inv-loop μ-loop
-runs-returns-3 t c =
-    let e = sym (c .before .equal-terms-known .ensures .0) ∙ not-true _ (c .if3 .taken) in
-    (sym (c .before .before .before .before .loop .inv .0 ∙ runs-more _ _ _ _ _ _ _ (search needs) (search needs) (search needs) e), c .before .equal-terms-known .ensures .1)
-
-runs-add-k : (t : ℕ) → runs-lts.Need-add-k (Runs t) (runs-at t) runs.Post Inv-loop μ-loop
-runs-add-k t c = search needs
-
-runs-loop-less : (t : ℕ) → runs-lts.Need-loop-less (Runs t) (runs-at t) runs.Post Inv-loop μ-loop
-runs-loop-less t c = search needs
+runs-returns-3 t c used lies kept =
+    let at-call = c .before in
+    let at-test = at-call .before .before .before .before in
+    let at-loop = at-test .before .before in
+    let same = sym (at-loop .before .before .before .before .if1 .left) in
+    let more = at-test .if3 .taken in
+    let was = at-loop .loop .inv used lies kept in
+    let told = at-call .equal-terms-known .ensures used (terms-inside lies same more) (was .kept) in
+    record { right = sym (was .right ∙ runs-next lies same more (sym (told .right) ∙ not-true _ (c .if4 .taken))); kept = told .kept }
 
 runs-loop-again : (t : ℕ) → runs-lts.Need-loop-again (Runs t) (runs-at t) runs.Post Inv-loop μ-loop
-runs-loop-again t c =
-    let e = sym (c .before .equal-terms-known .ensures .0) ∙ not-false _ (c .if3 .left) in
-    (c .before .before .before .before .loop .inv .0 ∙ runs-more _ _ _ _ _ _ _ (search needs) (search needs) (search needs) e, c .before .equal-terms-known .ensures .1)
+runs-loop-again t c used lies kept =
+    let at-call = c .before in
+    let at-test = at-call .before .before .before .before in
+    let at-loop = at-test .before .before in
+    let same = sym (at-loop .before .before .before .before .if1 .left) in
+    let more = at-test .if3 .taken in
+    let was = at-loop .loop .inv used lies kept in
+    let told = at-call .equal-terms-known .ensures used (terms-inside lies same more) (was .kept) in
+    record { right = was .right ∙ runs-next lies same more (sym (told .right) ∙ not-false _ (c .if4 .left)); kept = told .kept }
 
 runs-returns-4 : (t : ℕ) → runs-lts.Need-returns-4 (Runs t) (runs-at t) runs.Post Inv-loop μ-loop
-runs-returns-4 t c = (sym (c .before .loop .inv .0 ∙ runs-none _ _ _ _ _ _ _ (search needs)), c .before .loop .inv .1)
+runs-returns-4 t c used lies kept =
+    let was = c .before .before .loop .inv used lies kept in
+    record { right = sym (was .right ∙ runs-none _ _ used _ _ _ _ (c .if3 .left)); kept = was .kept }
+
+-- ---- terms ----
+
+-- the two terms, once they are read
+two : (t : ℕ) (c : terms-lts.After-get-term2 (Terms t) (terms-at t) terms.Post) {used : ℕ} →
+    let given = c .before .before .before .before .args in
+    TermsIn (given .names .now) (given .terms .now) (given .i) (given .j) used
+    → Two (given .names .now) (given .terms .now) (given .i) (given .j) (asTerm (c .before .get-term .result)) (asTerm (c .get-term2 .result)) used
+two t c lies = record { inside = lies; left = c .before .get-term .ensures; right = c .get-term2 .ensures }
 
 terms-get-term-requires : (t : ℕ) → terms-lts.Need-get-term-requires (Terms t) (terms-at t) terms.Post
-terms-get-term-requires t c κs = omega (arith, c .before .before .pre .1 .0 .0 .fits)
+terms-get-term-requires t c κs = let lies = c .before .before .pre .1 .1 .0 in omega (arith, lies .store .fits, lies .first)
 
 terms-get-term-requires-2 : (t : ℕ) → terms-lts.Need-get-term-requires-2 (Terms t) (terms-at t) terms.Post
-terms-get-term-requires-2 t c κs = omega (arith, c .before .before .before .pre .1 .0 .0 .fits)
+terms-get-term-requires-2 t c κs = let lies = c .before .before .before .pre .1 .1 .0 in omega (arith, lies .store .fits, lies .second)
 
 terms-returns : (t : ℕ) → terms-lts.Need-returns (Terms t) (terms-at t) terms.Post
-terms-returns t c =
-    let g = c .before .before .before in
-    let a = g .before .before .before .before .pre .1 in
-    (at-differ _ _ _ (a .0 .0) _ _ _ _ (a .1 .0 .0) (a .1 .0 .1) (g .before .get-term .ensures) (g .get-term2 .ensures) (search needs), a .1 .1)
+terms-returns t c used lies kept = record { right = two-differ (two t (c .before .before .before) lies) (c .if1 .taken); kept = kept }
 
 terms-equal-symbols-requires : (t : ℕ) → terms-lts.Need-equal-symbols-requires (Terms t) (terms-at t) terms.Post
 terms-equal-symbols-requires t c κs =
-    let g = c .before .before .before .before .before in
-    let a = g .before .before .before .before .pre .1 in
-    (texts-at _ _ _ (a .0 .0) _ _ _ _ (a .1 .0 .0) (a .1 .0 .1) (g .before .get-term .ensures) (g .get-term2 .ensures), search needs)
+    let at-if1 = c .before .before in
+    let at-read = at-if1 .before .before .before in
+    (two-texts (two t at-read (at-read .before .before .before .before .pre .1 .1 .0)), (at-if1 .if1 .left, c .if2 .taken))
 
 terms-returns-2 : (t : ℕ) → terms-lts.Need-returns-2 (Terms t) (terms-at t) terms.Post
-terms-returns-2 t c =
-    let g = c .before .before .before .before .before .before in
-    let a = g .before .before .before .before .pre .1 in
-    (c .equal-symbols .ensures ∙ at-symbols _ _ _ (a .0 .0) _ _ _ _ (a .1 .0 .0) (a .1 .0 .1) (g .before .get-term .ensures) (g .get-term2 .ensures) (search needs) (search needs), a .1 .1)
+terms-returns-2 t c used lies kept =
+    let at-if2 = c .before in
+    let at-if1 = at-if2 .before .before in
+    let here = two t (at-if1 .before .before .before) lies in
+    record { right = c .equal-symbols .ensures ∙ two-symbols here (at-if1 .if1 .left) (at-if2 .if2 .taken); kept = kept }
 
 terms-lowest-known-requires : (t : ℕ) → terms-lts.Need-lowest-known-requires (Terms t) (terms-at t) terms.Post
-terms-lowest-known-requires t c κs = (c .before .before .before .before .before .before .before .before .before .before .pre .1 .1 .1 .down, omega (arith, c .before .before .before .before .before .before .before .before .before .before .pre .1))
+terms-lowest-known-requires t c κs =
+    let at-read = c .before .before .before .before .before .before in
+    let asked = at-read .before .before .before .before .pre .1 .1 in
+    (asked .1 .down, omega (arith, asked .0 .first, asked .0 .few))
 
 terms-lowest-known-requires-2 : (t : ℕ) → terms-lts.Need-lowest-known-requires-2 (Terms t) (terms-at t) terms.Post
-terms-lowest-known-requires-2 t c κs = (c .before .lowest-known .ensures .down, omega (arith, c .before .before .before .before .before .before .before .before .before .before .before .before .pre .1))
+terms-lowest-known-requires-2 t c κs =
+    let at-read = c .before .before .before .before .before .before .before .before in
+    let lies = at-read .before .before .before .before .pre .1 .1 .0 in
+    (c .before .lowest-known .ensures .down, omega (arith, lies .second, lies .few))
 
 terms-returns-3 : (t : ℕ) → terms-lts.Need-returns-3 (Terms t) (terms-at t) terms.Post
-terms-returns-3 t c =
-    let k = c .before .before .before .before .before .before .before .before .before .before .before .before .before .before .pre .1 .1 .1 in
+terms-returns-3 t c used lies kept =
     let f = c .before .before .before .lowest-known .ensures in
     let g = c .before .lowest-known2 .ensures in
-    (known-equal _ _ _ k f g (search needs), known-kept _ _ _ k f g)
+    record { right = known-equal _ _ used kept f g (c .if3 .taken); kept = known-kept _ _ used kept f g }
 
 terms-equal-runs-known-requires : (t : ℕ) → terms-lts.Need-equal-runs-known-requires (Terms t) (terms-at t) terms.Post
 terms-equal-runs-known-requires t c κs =
-    let g = c .before .before .before .before .before .before .before .before .before .before .before in
-    let a = g .before .before .before .before .pre .1 in
-    let x = contents-below _ _ _ (a .0 .0) _ _ (a .1 .0 .0) (g .before .get-term .ensures) (search needs) in
-    let y = contents-below _ _ _ (a .0 .0) _ _ (a .1 .0 .1) (g .get-term2 .ensures) (search needs) in
-    let z = contents-shallow _ _ _ (a .0 .0) _ _ (a .1 .0 .0) (g .before .get-term .ensures) (search needs) in
-    (omega (arith, g .before .before .before .before .pre .0), (a .0, ((omega (arith, a), omega (arith, a)), known-kept _ _ _ (a .1 .1) (c .before .before .before .before .lowest-known .ensures) (c .before .before .lowest-known2 .ensures))))
+    let at-low2 = c .before .before in
+    let at-low = at-low2 .before .before in
+    let at-if2 = at-low .before .before in
+    let at-if1 = at-if2 .before .before in
+    let at-read = at-if1 .before .before .before in
+    let at-start = at-read .before .before .before .before in
+    let asked = at-start .pre .1 in
+    let here = two t at-read (asked .1 .0) in
+    let less = two-shallow here (at-if2 .if2 .left) (at-if1 .if1 .left) in (
+      omega (arith, at-start .pre .0),
+      (
+        asked .0,
+        (two-contents here (at-if2 .if2 .left) (at-if1 .if1 .left), known-kept _ _ _ (asked .1 .1) (at-low .lowest-known .ensures) (at-low2 .lowest-known2 .ensures)),
+      ),
+    )
 
 terms-returns-4 : (t : ℕ) → terms-lts.Need-returns-4 (Terms t) (terms-at t) terms.Post
-terms-returns-4 t c =
-    let g = c .before .before .before .before .before .before .before .before .before .before .before .before .before in
-    let a = g .before .before .before .before .pre .1 in
-    let e = at-brackets _ _ _ (a .0 .0) _ _ _ _ (a .1 .0 .0) (a .1 .0 .1) (g .before .get-term .ensures) (g .get-term2 .ensures) (c .before .before .before .before .before .before .before .before .if2 .left) (c .before .before .before .before .before .before .before .before .before .before .if1 .left) in
-    (sym (not-true _ (c .if4 .taken)) ∙ c .before .equal-runs-known .ensures .0 ∙ e, c .before .equal-runs-known .ensures .1)
+terms-returns-4 t c used lies kept =
+    let at-call = c .before in
+    let at-low2 = at-call .before .before .before in
+    let at-low = at-low2 .before .before in
+    let at-if2 = at-low .before .before in
+    let at-if1 = at-if2 .before .before in
+    let here = two t (at-if1 .before .before .before) lies in
+    let inside = two-contents here (at-if2 .if2 .left) (at-if1 .if1 .left) in
+    let told = at-call .equal-runs-known .ensures used inside (known-kept _ _ used kept (at-low .lowest-known .ensures) (at-low2 .lowest-known2 .ensures)) in
+    let same = told .right ∙ two-brackets here (at-if2 .if2 .left) (at-if1 .if1 .left) in
+    record { right = sym (not-true _ (c .if4 .taken)) ∙ same; kept = told .kept }
 
 terms-link-requires : (t : ℕ) → terms-lts.Need-link-requires (Terms t) (terms-at t) terms.Post
-terms-link-requires t c κs = (omega (arith, c .before .before .before .before .before .before .before .before .before .before .before .before .before .before .before .before .before .before .pre .1, c .before .before .before .before .before .before .before .lowest-known .ensures .low), omega (arith, c .before .before .before .before .before .before .before .before .before .before .before .before .before .before .before .before .before .before .pre .1, c .before .before .before .before .before .lowest-known2 .ensures .low))
+terms-link-requires t c κs =
+    let at-low2 = c .before .before .before .before .before in
+    let at-low = at-low2 .before .before in
+    let at-read = at-low .before .before .before .before .before .before .before in
+    let lies = at-read .before .before .before .before .pre .1 .1 .0 in
+    (omega (arith, lies .first, lies .few, at-low .lowest-known .ensures .low), omega (arith, lies .second, lies .few, at-low2 .lowest-known2 .ensures .low))
 
 terms-returns-5 : (t : ℕ) → terms-lts.Need-returns-5 (Terms t) (terms-at t) terms.Post
-terms-returns-5 t c =
-    let g = c .before .before .before .before .before .before .before .before .before .before .before .before .before .before .before in
-    let a = g .before .before .before .before .pre .1 in
-    let e = at-brackets _ _ _ (a .0 .0) _ _ _ _ (a .1 .0 .0) (a .1 .0 .1) (g .before .get-term .ensures) (g .get-term2 .ensures) (c .before .before .before .before .before .before .before .before .before .before .if2 .left) (c .before .before .before .before .before .before .before .before .before .before .before .before .if1 .left) in
-    let q = sym (not-false _ (c .before .before .if4 .left)) ∙ c .before .before .before .equal-runs-known .ensures .0 ∙ e in
-    (q, rw (c .link .ensures) (known-linked _ _ _ (a .1 .1) (c .before .before .before .before .before .before .before .before .lowest-known .ensures) (c .before .before .before .before .before .before .lowest-known2 .ensures) (c .before .before .before .equal-runs-known .ensures .1) (sym q)))
+terms-returns-5 t c used lies kept =
+    let at-if4 = c .before .before in
+    let at-call = at-if4 .before in
+    let at-low2 = at-call .before .before .before in
+    let at-low = at-low2 .before .before in
+    let at-if2 = at-low .before .before in
+    let at-if1 = at-if2 .before .before in
+    let here = two t (at-if1 .before .before .before) lies in
+    let inside = two-contents here (at-if2 .if2 .left) (at-if1 .if1 .left) in
+    let told = at-call .equal-runs-known .ensures used inside (known-kept _ _ used kept (at-low .lowest-known .ensures) (at-low2 .lowest-known2 .ensures)) in
+    let same = told .right ∙ two-brackets here (at-if2 .if2 .left) (at-if1 .if1 .left) in
+    let yes = sym (not-false _ (at-if4 .if4 .left)) ∙ same in
+    record {
+      right = yes;
+      kept = rw (c .link .ensures) (known-linked _ _ used kept (at-low .lowest-known .ensures) (at-low2 .lowest-known2 .ensures) (told .kept) (sym yes));
+    }
 
 pub +equal-runs-known+equal-terms-known-spec : {M : Type 1} → statement M
 +equal-runs-known+equal-terms-known-spec =
     close
     μ-runs
     μ-terms
-    (λ t. runs-lts.spec (Runs t) (runs-at t) runs.Post Inv-loop μ-loop (runs-returns t) (runs-returns-2 t) (runs-loop-holds t) (runs-add-equal-terms-known t) (runs-add-equal-terms-known-2 t) (runs-equal-terms-known-requires t) (runs-returns-3 t) (runs-add-k t) (runs-loop-less t) (runs-loop-again t) (runs-returns-4 t))
-    (λ t. terms-lts.spec (Terms t) (terms-at t) terms.Post (terms-get-term-requires t) (terms-get-term-requires-2 t) (terms-returns t) (terms-equal-symbols-requires t) (terms-returns-2 t) (terms-lowest-known-requires t) (terms-lowest-known-requires-2 t) (terms-returns-3 t) (terms-equal-runs-known-requires t) (terms-returns-4 t) (terms-link-requires t) (terms-returns-5 t))
+    (λ t.
+    runs-lts.spec (Runs t) (runs-at t) runs.Post Inv-loop μ-loop
+    (runs-returns t)
+    (runs-returns-2 t)
+    (runs-loop-holds t)
+    (λ c. search needs)
+    (λ c. search needs)
+    (runs-equal-terms-known-requires t)
+    (runs-returns-3 t)
+    (λ c. search needs)
+    (λ c. search needs)
+    (runs-loop-again t)
+    (runs-returns-4 t))
+    (λ t.
+    terms-lts.spec (Terms t) (terms-at t) terms.Post
+    (terms-get-term-requires t)
+    (terms-get-term-requires-2 t)
+    (terms-returns t)
+    (terms-equal-symbols-requires t)
+    (terms-returns-2 t)
+    (terms-lowest-known-requires t)
+    (terms-lowest-known-requires-2 t)
+    (terms-returns-3 t)
+    (terms-equal-runs-known-requires t)
+    (terms-returns-4 t)
+    (terms-link-requires t)
+    (terms-returns-5 t))

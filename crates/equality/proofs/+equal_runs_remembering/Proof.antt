@@ -6,9 +6,12 @@ use borrow.Author.Needs.{needs}
 use borrow.Author.Tests.{not-true, not-false}
 use borrow.Fn.Kinds.{In}
 use borrow.Fn.PlainCycle.{Measures, is, falls, and}
+use Rattle.term_spec.specs.Term.{limit}
+use Rattle.words.specs.Records.{asRun}
 use Rattle.value.specs.EqualLaws.{runs-lengths}
+use Rattle.equality.specs.Known.{RunsIn}
 use Rattle.equality.specs.KnownLaws.{remembers-none}
-use Rattle.equality.specs.RunLaws.{runs-parts}
+use Rattle.equality.specs.RunLaws.{front-inside, rest-inside, in-parts}
 use Rattle.equality.proofs.equal_runs_remembering.Reads as runs
 use Rattle.equality.proofs.equal_runs_remembering.Kinds as runs-kinds
 use Rattle.equality.proofs.+equal_runs_remembering.Lts-equal_runs_remembering as runs-lts
@@ -17,7 +20,7 @@ use Rattle.equality.proofs.+equal_runs_remembering.{statement}
 use Rattle.equality.proofs.+equal_runs_remembering.Tie.{close}
 
 abbrev μ-runs : Measures 2 runs-kinds.ps ℕ
-μ-runs κs a = a .1 .1 .1 .1 .0
+μ-runs κs a = a .1 .1 .1 .0 .len
 
 -- what it is given at the measure t, and what a call of it asks below t
 abbrev runs-at : ℕ → In 2 runs-kinds.ps
@@ -31,44 +34,67 @@ abbrev Runs : ℕ → runs-lts.Claims
 Runs t = (runs-below t, runs.Post, equal-runs-known-reads.Asked, equal-runs-known-reads.Learnt)
 
 returns : (t : ℕ) → runs-lts.Need-returns (Runs t) (runs-at t) runs.Post
-returns t c = runs-lengths _ _ _ _ _ _ _ (search needs) (search needs) (search needs)
+returns t c =
+    let lies = c .before .before .before .before .before .pre .1 in
+    runs-lengths _ _ _ _ _ _ _ (lies .first) (lies .second) (λ e. omega (arith, c .if1 .taken))
 
-add-part : (t : ℕ) → runs-lts.Need-add-part (Runs t) (runs-at t) runs.Post
-add-part t c = search needs
+-- where the run is longer than a part: what is known of the two runs
+longer : (t : ℕ) (c : runs-lts.Then2 (Runs t) (runs-at t) runs.Post) →
+    let given = c .before .before .before .before .before .before .before .args in
+    RunsIn (given .names .now) (given .terms .now) (asRun (given .first)) (asRun (given .second)) (given .used)
+longer t c = c .before .before .before .before .before .before .before .pre .1
 
 runs-requires : (t : ℕ) → runs-lts.Need-equal-runs-remembering-requires (Runs t) (runs-at t) runs.Post
-runs-requires t c κs = (omega arith, (c .before .before .before .before .pre .1 .0, (omega arith, omega arith)))
+runs-requires t c κs =
+    let at-if1 = c .before .before in
+    let at-start = at-if1 .before .before .before .before .before in
+    (omega (arith, at-start .pre .0, c .if2 .taken), front-inside (longer t c) (at-if1 .if1 .left) (omega (arith, c .if2 .taken)))
 
 returns-2 : (t : ℕ) → runs-lts.Need-returns-2 (Runs t) (runs-at t) runs.Post
 returns-2 t c =
+    let at-if2 = c .before .before in
     let e = sym (c .before .equal-runs-remembering .ensures) ∙ not-true _ (c .if3 .taken) in
-    sym (runs-parts _ _ _ _ _ _ _ _ (search needs) (search needs) (search needs) (search needs) e)
-
-sub-rest : (t : ℕ) → runs-lts.Need-sub-rest (Runs t) (runs-at t) runs.Post
-sub-rest t c = search needs
-
-add-equal-runs-remembering : (t : ℕ) → runs-lts.Need-add-equal-runs-remembering (Runs t) (runs-at t) runs.Post
-add-equal-runs-remembering t c = search needs
-
-add-equal-runs-remembering-2 : (t : ℕ) → runs-lts.Need-add-equal-runs-remembering-2 (Runs t) (runs-at t) runs.Post
-add-equal-runs-remembering-2 t c = search needs
+    sym (in-parts (longer t at-if2) (at-if2 .before .before .if1 .left) (omega (arith, at-if2 .if2 .taken)) e)
 
 runs-requires-2 : (t : ℕ) → runs-lts.Need-equal-runs-remembering-requires-2 (Runs t) (runs-at t) runs.Post
-runs-requires-2 t c κs = (omega arith, (c .before .before .before .before .before .before .pre .1 .0, (omega arith, omega arith)))
+runs-requires-2 t c κs =
+    let at-if2 = c .before .before .before .before .before in
+    let at-if1 = at-if2 .before .before in
+    let at-start = at-if1 .before .before .before .before .before in
+    (omega (arith, at-start .pre .0, at-if2 .if2 .taken), rest-inside (longer t at-if2) (at-if1 .if1 .left) (omega (arith, at-if2 .if2 .taken)))
 
 returns-3 : (t : ℕ) → runs-lts.Need-returns-3 (Runs t) (runs-at t) runs.Post
 returns-3 t c =
-    let e = sym (c .before .before .equal-runs-remembering .ensures) ∙ not-false _ (c .before .if3 .left) in
-    c .equal-runs-remembering2 .ensures ∙ sym (runs-parts _ _ _ _ _ _ _ _ (search needs) (search needs) (search needs) (search needs) e)
+    let at-if3 = c .before .before .before .before in
+    let at-if2 = at-if3 .before .before in
+    let e = sym (at-if3 .before .equal-runs-remembering .ensures) ∙ not-false _ (at-if3 .if3 .left) in
+    c .equal-runs-remembering2 .ensures
+    ∙ sym (in-parts (longer t at-if2) (at-if2 .before .before .if1 .left) (omega (arith, at-if2 .if2 .taken)) e)
 
 equal-runs-known-requires : (t : ℕ) → runs-lts.Need-equal-runs-known-requires (Runs t) (runs-at t) runs.Post
-equal-runs-known-requires t c κs = (c .before .before .before .before .before .pre .1 .0, (c .before .before .before .before .before .pre .1 .1, remembers-none _ 65536))
+equal-runs-known-requires t c κs =
+    let at-start = c .before .before .before .before .before .before .before .before in
+    (at-start .args .used, (at-start .pre .1, remembers-none _ limit))
 
 returns-4 : (t : ℕ) → runs-lts.Need-returns-4 (Runs t) (runs-at t) runs.Post
-returns-4 t c = c .equal-runs-known .ensures .0
+returns-4 t c =
+    let at-start = c .before .before .before .before .before .before .before .before .before in
+    (c .equal-runs-known .ensures _ (at-start .pre .1) (remembers-none _ limit)) .right
 
 pub +equal-runs-remembering-spec : {M : Type 1} → statement M
 +equal-runs-remembering-spec =
     close
     μ-runs
-    (λ t. runs-lts.spec (Runs t) (runs-at t) runs.Post (returns t) (add-part t) (runs-requires t) (returns-2 t) (sub-rest t) (add-equal-runs-remembering t) (add-equal-runs-remembering-2 t) (runs-requires-2 t) (returns-3 t) (equal-runs-known-requires t) (returns-4 t))
+    (λ t.
+    runs-lts.spec (Runs t) (runs-at t) runs.Post
+    (returns t)
+    (λ c. search needs)
+    (runs-requires t)
+    (returns-2 t)
+    (λ c. search needs)
+    (λ c. search needs)
+    (λ c. search needs)
+    (runs-requires-2 t)
+    (returns-3 t)
+    (equal-runs-known-requires t)
+    (returns-4 t))

@@ -6,10 +6,12 @@ use native.Mathlib.Omega.{arith}
 use borrow.Author.Needs.{needs}
 use borrow.Fn.Kinds.{In}
 use borrow.Fn.PlainCycle.{Measures, is, falls, and}
-use Rattle.value.specs.Equal.{equalRuns}
-use Rattle.value.specs.EqualLaws.{depthAt, deepestIn, depth-inside, texts-at, contents-below, contents-shallow, at-differ, at-symbols, at-brackets, runs-lengths, runs-same, runsFrom, runs-all, runs-more, runs-none}
-use Rattle.equality.specs.Known.{Tells}
+use Rattle.value.specs.Equal.{equalAt}
+use Rattle.value.specs.EqualLaws.{depthAt, deepestIn, depth-inside, runs-lengths, runs-same, runsFrom, runs-all, runs-none}
+use Rattle.words.specs.Records.{asTerm, asRun}
+use Rattle.equality.specs.Known.{TermsIn, RunsIn, sameRuns, Tells}
 use Rattle.equality.specs.KnownLaws.{tells-different, tells-equal}
+use Rattle.equality.specs.TwoLaws.{Two, two-differ, two-texts, two-symbols, two-brackets, two-contents, two-shallow, terms-inside, runs-next}
 use Rattle.equality.proofs.equal_runs_within.Reads as runs
 use Rattle.equality.proofs.equal_runs_within.Kinds as runs-kinds
 use Rattle.equality.proofs.+equal_runs_within+equal_terms_within.Lts-equal_runs_within as runs-lts
@@ -22,10 +24,10 @@ use Rattle.equality.proofs.+equal_runs_within+equal_terms_within.{state
 use Rattle.equality.proofs.+equal_runs_within+equal_terms_within.Tie.{close}
 
 abbrev μ-runs : Measures 2 runs-kinds.ps ℕ
-μ-runs κs a = 2 * deepestIn (a .1 .0 .now) (a .1 .1 .0) (a .1 .1 .1 .0) (a .1 .1 .1 .1 .0) + 1
+μ-runs κs a = 2 * deepestIn (a .1 .0 .now) (a .1 .1 .0 .start) (a .1 .1 .0 .len) + 1
 
 abbrev μ-terms : Measures 2 terms-kinds.ps ℕ
-μ-terms κs a = 2 * depthAt (a .1 .0 .now) (a .1 .1 .1 .0)
+μ-terms κs a = 2 * depthAt (a .1 .0 .now) (a .1 .1 .0)
 
 -- what each is given at the measure t, and what a call of it asks below t
 abbrev runs-at : ℕ → In 2 runs-kinds.ps
@@ -48,119 +50,158 @@ abbrev Terms : ℕ → terms-lts.Claims
 Terms t = (get-term-reads.Asked, get-term-reads.Learnt, runs-below t, runs.Post, equal-symbols-reads.Asked, equal-symbols-reads.Learnt)
 
 abbrev Inv-loop : runs-lts.InvT-loop
-Inv-loop names terms used s n p m budget left₀ k₀ left k = equalRuns names terms used s n p m ≡ runsFrom names terms used s n p k
+Inv-loop names terms first second budget left₀ k₀ left k =
+    (used : ℕ) → RunsIn names terms (asRun first) (asRun second) used
+    → sameRuns names terms used (asRun first) (asRun second) ≡ runsFrom names terms used (first .start) (first .len) (second .start) k
 
 abbrev μ-loop : runs-lts.MeasureT-loop
-μ-loop names terms used s n p m budget left₀ k₀ left k = n - k
+μ-loop names terms first second budget left₀ k₀ left k = first .len - k
+
+-- ---- runs ----
 
 runs-returns : (t : ℕ) → runs-lts.Need-returns (Runs t) (runs-at t) runs.Post Inv-loop μ-loop
 unfolding Tells
-runs-returns t c = sym (runs-lengths _ _ _ _ _ _ _ (search needs) (search needs) (search needs))
+runs-returns t c used lies = sym (runs-lengths _ _ used _ _ _ _ (lies .first) (lies .second) (search needs))
 
 runs-returns-2 : (t : ℕ) → runs-lts.Need-returns-2 (Runs t) (runs-at t) runs.Post Inv-loop μ-loop
 unfolding Tells
-runs-returns-2 t c = sym (runs-same _ _ _ _ _ _ _ (search needs) (search needs))
+runs-returns-2 t c used lies = sym (runs-same _ _ used _ _ _ _ (c .before .before .before .if1 .left) (c .if2 .taken))
 
 runs-returns-3 : (t : ℕ) → runs-lts.Need-returns-3 (Runs t) (runs-at t) runs.Post Inv-loop μ-loop
 unfolding Tells
-runs-returns-3 t c = tt
+runs-returns-3 t c used lies = tt
 
 runs-loop-holds : (t : ℕ) → runs-lts.Need-loop-holds (Runs t) (runs-at t) runs.Post Inv-loop μ-loop
-runs-loop-holds t c = runs-all _ _ _ _ _ _ _ (search needs)
-
-runs-add-equal-terms-within : (t : ℕ) → runs-lts.Need-add-equal-terms-within (Runs t) (runs-at t) runs.Post Inv-loop μ-loop
-runs-add-equal-terms-within t c = search needs
-
-runs-add-equal-terms-within-2 : (t : ℕ) → runs-lts.Need-add-equal-terms-within-2 (Runs t) (runs-at t) runs.Post Inv-loop μ-loop
-runs-add-equal-terms-within-2 t c = search needs
+runs-loop-holds t c used lies = runs-all _ _ used _ _ _ _ (c .before .before .before .before .before .before .if1 .left)
 
 runs-equal-terms-within-requires : (t : ℕ) → runs-lts.Need-equal-terms-within-requires (Runs t) (runs-at t) runs.Post Inv-loop μ-loop
 runs-equal-terms-within-requires t c κs =
-    let a = c .before .before .before .before .before .before .before in
-    (omega (arith, depth-inside (a .args .terms .now) _ _ _ _ (c .loop-test .taken) (a .pre .1 .1 .0)), (a .pre .1 .0, search needs))
-
-runs-enum-told : (t : ℕ) → runs-lts.Need-enum-told (Runs t) (runs-at t) runs.Post Inv-loop μ-loop
-runs-enum-told t c = search needs
+    let at-test = c .before .before in
+    let at-if1 = at-test .before .before .before .before .before .before .before .before .before in
+    let at-start = at-if1 .before .before .before .before .before in
+    let asked = at-start .pre .1 in (
+      omega (arith, at-start .pre .0, depth-inside (at-start .args .terms .now) (at-start .args .first .start) _ _ (at-test .if4 .taken)),
+      (asked .0, terms-inside (asked .1) (at-if1 .if1 .left) (at-test .if4 .taken)),
+    )
 
 runs-returns-4 : (t : ℕ) → runs-lts.Need-returns-4 (Runs t) (runs-at t) runs.Post Inv-loop μ-loop
 unfolding Tells
-runs-returns-4 t c = c .before .before .before .before .loop .inv ∙ runs-more _ _ _ _ _ _ _ (search needs) (search needs) (search needs) (tells-different (c .before .before .equal-terms-within .ensures) (c .enum-told .given .1))
-
-runs-enum-told-2 : (t : ℕ) → runs-lts.Need-enum-told-2 (Runs t) (runs-at t) runs.Post Inv-loop μ-loop
-runs-enum-told-2 t c = search needs
+runs-returns-4 t c used lies =
+    let at-call = c .before .before in
+    let at-test = at-call .before .before .before in
+    let at-loop = at-test .before .before in
+    let same = at-loop .before .before .before .before .before .before .before .if1 .left in
+    let more = at-test .if4 .taken in
+    at-loop .loop .inv used lies ∙ runs-next lies same more (tells-different (at-call .equal-terms-within .ensures used (terms-inside lies same more)) (c .enum-told .given .1))
 
 runs-returns-5 : (t : ℕ) → runs-lts.Need-returns-5 (Runs t) (runs-at t) runs.Post Inv-loop μ-loop
 unfolding Tells
-runs-returns-5 t c = tt
-
-runs-enum-known-rest : (t : ℕ) → runs-lts.Need-enum-known-rest (Runs t) (runs-at t) runs.Post Inv-loop μ-loop
-runs-enum-known-rest t c = search needs
-
-runs-add-k : (t : ℕ) → runs-lts.Need-add-k (Runs t) (runs-at t) runs.Post Inv-loop μ-loop
-runs-add-k t c = search needs
-
-runs-loop-less : (t : ℕ) → runs-lts.Need-loop-less (Runs t) (runs-at t) runs.Post Inv-loop μ-loop
-runs-loop-less t c = search needs
+runs-returns-5 t c used lies = tt
 
 runs-loop-again : (t : ℕ) → runs-lts.Need-loop-again (Runs t) (runs-at t) runs.Post Inv-loop μ-loop
-runs-loop-again t c = c .before .before .before .before .before .loop .inv ∙ runs-more _ _ _ _ _ _ _ (search needs) (search needs) (search needs) (tells-equal (c .before .before .before .equal-terms-within .ensures) (c .before .rest .given .1))
+runs-loop-again t c used lies =
+    let at-call = c .before .before .before in
+    let at-test = at-call .before .before .before in
+    let at-loop = at-test .before .before in
+    let same = at-loop .before .before .before .before .before .before .before .if1 .left in
+    let more = at-test .if4 .taken in
+    at-loop .loop .inv used lies ∙ runs-next lies same more (tells-equal (at-call .equal-terms-within .ensures used (terms-inside lies same more)) (c .before .rest .given .1))
 
 runs-returns-6 : (t : ℕ) → runs-lts.Need-returns-6 (Runs t) (runs-at t) runs.Post Inv-loop μ-loop
 unfolding Tells
-runs-returns-6 t c = c .before .loop .inv ∙ runs-none _ _ _ _ _ _ _ (search needs)
+runs-returns-6 t c used lies = c .before .before .loop .inv used lies ∙ runs-none _ _ used _ _ _ _ (c .if4 .left)
+
+-- ---- terms ----
+
+-- the two terms, once they are read
+two : (t : ℕ) (c : terms-lts.After-get-term2 (Terms t) (terms-at t) terms.Post) {used : ℕ} →
+    let given = c .before .before .before .before .args in
+    TermsIn (given .names .now) (given .terms .now) (given .i) (given .j) used
+    → Two (given .names .now) (given .terms .now) (given .i) (given .j) (asTerm (c .before .get-term .result)) (asTerm (c .get-term2 .result)) used
+two t c lies = record { inside = lies; left = c .before .get-term .ensures; right = c .get-term2 .ensures }
 
 terms-get-term-requires : (t : ℕ) → terms-lts.Need-get-term-requires (Terms t) (terms-at t) terms.Post
-terms-get-term-requires t c κs = omega (arith, c .before .before .pre .1 .0 .fits)
+terms-get-term-requires t c κs = let lies = c .before .before .pre .1 .1 in omega (arith, lies .store .fits, lies .first)
 
 terms-get-term-requires-2 : (t : ℕ) → terms-lts.Need-get-term-requires-2 (Terms t) (terms-at t) terms.Post
-terms-get-term-requires-2 t c κs = omega (arith, c .before .before .before .pre .1 .0 .fits)
+terms-get-term-requires-2 t c κs = let lies = c .before .before .before .pre .1 .1 in omega (arith, lies .store .fits, lies .second)
 
 terms-returns : (t : ℕ) → terms-lts.Need-returns (Terms t) (terms-at t) terms.Post
 unfolding Tells
-terms-returns t c =
-    let g = c .before .before .before in
-    let a = g .before .before .before .before .pre .1 in
-    sym (at-differ _ _ _ (a .0) _ _ _ _ (a .1 .0) (a .1 .1) (g .before .get-term .ensures) (g .get-term2 .ensures) (search needs))
+terms-returns t c used lies = sym (two-differ (two t (c .before .before .before) lies) (c .if1 .taken))
 
 terms-equal-runs-within-requires : (t : ℕ) → terms-lts.Need-equal-runs-within-requires (Terms t) (terms-at t) terms.Post
 terms-equal-runs-within-requires t c κs =
-    let g = c .before .before .before .before .before in
-    let a = g .before .before .before .before .pre .1 in
-    let x = contents-below _ _ _ (a .0) _ _ (a .1 .0) (g .before .get-term .ensures) (search needs) in
-    let y = contents-below _ _ _ (a .0) _ _ (a .1 .1) (g .get-term2 .ensures) (search needs) in
-    let z = contents-shallow _ _ _ (a .0) _ _ (a .1 .0) (g .before .get-term .ensures) (search needs) in
-    (omega arith, (a .0, (omega arith, omega arith)))
+    let at-if1 = c .before .before in
+    let at-read = at-if1 .before .before .before in
+    let at-start = at-read .before .before .before .before in
+    let asked = at-start .pre .1 in
+    let here = two t at-read (asked .1) in
+    let less = two-shallow here (c .if2 .taken) (at-if1 .if1 .left) in
+    (omega (arith, at-start .pre .0), (asked .0, two-contents here (c .if2 .taken) (at-if1 .if1 .left)))
 
 terms-returns-2 : (t : ℕ) → terms-lts.Need-returns-2 (Terms t) (terms-at t) terms.Post
-terms-returns-2 t c =
-    let g = c .before .before .before .before .before .before in
-    let a = g .before .before .before .before .pre .1 in
-    rw (at-brackets _ _ _ (a .0) _ _ _ _ (a .1 .0) (a .1 .1) (g .before .get-term .ensures) (g .get-term2 .ensures) (search needs) (search needs)) at (c .equal-runs-within .ensures)
+terms-returns-2 t c used lies =
+    let at-if2 = c .before in
+    let at-if1 = at-if2 .before .before in
+    let here = two t (at-if1 .before .before .before) lies in
+    let contents = two-contents here (at-if2 .if2 .taken) (at-if1 .if1 .left) in
+    rw (two-brackets here (at-if2 .if2 .taken) (at-if1 .if1 .left)) at (c .equal-runs-within .ensures used contents)
 
 terms-equal-symbols-requires : (t : ℕ) → terms-lts.Need-equal-symbols-requires (Terms t) (terms-at t) terms.Post
 terms-equal-symbols-requires t c κs =
-    let g = c .before .before .before .before .before in
-    let a = g .before .before .before .before .pre .1 in
-    (texts-at _ _ _ (a .0) _ _ _ _ (a .1 .0) (a .1 .1) (g .before .get-term .ensures) (g .get-term2 .ensures), search needs)
+    let at-if1 = c .before .before in
+    let at-read = at-if1 .before .before .before in
+    (two-texts (two t at-read (at-read .before .before .before .before .pre .1 .1)), (at-if1 .if1 .left, c .if2 .left))
+
+-- what equality of symbols says of the two terms
+symbols : (t : ℕ) (c : terms-lts.After-equal-symbols (Terms t) (terms-at t) terms.Post) {used : ℕ} →
+    let given = c .before .before .before .before .before .before .before .before .before .before .args in
+    TermsIn (given .names .now) (given .terms .now) (given .i) (given .j) used
+    → c .equal-symbols .result ≡ equalAt (given .names .now) (given .terms .now) used (given .i) (given .j)
+symbols t c lies =
+    let at-if2 = c .before in
+    let at-if1 = at-if2 .before .before in
+    c .equal-symbols .ensures ∙ two-symbols (two t (at-if1 .before .before .before) lies) (at-if1 .if1 .left) (at-if2 .if2 .left)
 
 terms-returns-3 : (t : ℕ) → terms-lts.Need-returns-3 (Terms t) (terms-at t) terms.Post
 unfolding Tells
-terms-returns-3 t c =
-    let g = c .before .before .before .before .before .before .before in
-    let a = g .before .before .before .before .pre .1 in
-    sym (c .before .equal-symbols .ensures ∙ at-symbols _ _ _ (a .0) _ _ _ _ (a .1 .0) (a .1 .1) (g .before .get-term .ensures) (g .get-term2 .ensures) (search needs) (search needs)) ∙ c .if3 .taken
+terms-returns-3 t c used lies = sym (symbols t (c .before) lies) ∙ c .if3 .taken
 
 terms-returns-4 : (t : ℕ) → terms-lts.Need-returns-4 (Terms t) (terms-at t) terms.Post
 unfolding Tells
-terms-returns-4 t c =
-    let g = c .before .before .before .before .before .before .before in
-    let a = g .before .before .before .before .pre .1 in
-    sym (c .before .equal-symbols .ensures ∙ at-symbols _ _ _ (a .0) _ _ _ _ (a .1 .0) (a .1 .1) (g .before .get-term .ensures) (g .get-term2 .ensures) (search needs) (search needs)) ∙ c .if3 .left
+terms-returns-4 t c used lies = sym (symbols t (c .before) lies) ∙ c .if3 .left
 
 pub +equal-runs-within+equal-terms-within-spec : {M : Type 1} → statement M
 +equal-runs-within+equal-terms-within-spec =
     close
     μ-runs
     μ-terms
-    (λ t. runs-lts.spec (Runs t) (runs-at t) runs.Post Inv-loop μ-loop (runs-returns t) (runs-returns-2 t) (runs-returns-3 t) (runs-loop-holds t) (runs-add-equal-terms-within t) (runs-add-equal-terms-within-2 t) (runs-equal-terms-within-requires t) (runs-enum-told t) (runs-returns-4 t) (runs-enum-told-2 t) (runs-returns-5 t) (runs-enum-known-rest t) (runs-add-k t) (runs-loop-less t) (runs-loop-again t) (runs-returns-6 t))
-    (λ t. terms-lts.spec (Terms t) (terms-at t) terms.Post (terms-get-term-requires t) (terms-get-term-requires-2 t) (terms-returns t) (terms-equal-runs-within-requires t) (terms-returns-2 t) (terms-equal-symbols-requires t) (terms-returns-3 t) (terms-returns-4 t))
+    (λ t.
+    runs-lts.spec (Runs t) (runs-at t) runs.Post Inv-loop μ-loop
+    (runs-returns t)
+    (runs-returns-2 t)
+    (runs-returns-3 t)
+    (runs-loop-holds t)
+    (λ c. search needs)
+    (λ c. search needs)
+    (runs-equal-terms-within-requires t)
+    (λ c. search needs)
+    (runs-returns-4 t)
+    (λ c. search needs)
+    (runs-returns-5 t)
+    (λ c. search needs)
+    (λ c. search needs)
+    (λ c. search needs)
+    (runs-loop-again t)
+    (runs-returns-6 t))
+    (λ t.
+    terms-lts.spec (Terms t) (terms-at t) terms.Post
+    (terms-get-term-requires t)
+    (terms-get-term-requires-2 t)
+    (terms-returns t)
+    (terms-equal-runs-within-requires t)
+    (terms-returns-2 t)
+    (terms-equal-symbols-requires t)
+    (terms-returns-3 t)
+    (terms-returns-4 t))

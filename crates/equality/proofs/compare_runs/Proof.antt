@@ -2,13 +2,10 @@
 use mathlib.Core.Path.{sym, _∙_}
 use borrow.Author.Needs.{needs}
 use Rattle.value.specs.EqualLaws.{store-of, store-few}
-use Rattle.equality.specs.Compare.{answerOf}
+use Rattle.equality.specs.Compare.{answerOf, found}
 use Rattle.equality.specs.CompareLaws.{compared-refused, compared-first, compared-second, compared-both}
 use Rattle.equality.proofs.compare_runs.Statement.{statement}
 use Rattle.equality.proofs.compare_runs.Tie as tie
-
-check-terms-requires : tie.Need-check-terms-requires
-check-terms-requires c κs = search needs
 
 returns : tie.Need-returns
 unfolding answerOf
@@ -36,12 +33,16 @@ equal-runs-requires c κs =
     ((store-of _ _ _ e (search needs), store-few _ _ _ e (search needs)), search needs)
 
 returns-6 : tie.Need-returns-6
-unfolding answerOf
-returns-6 c = compared-both _ _ _ _ _ _ _ (c .before .before .before .before .before .before .before .check-terms .ensures) (search needs) (search needs) (search needs) (sym (c .if6 .taken) ∙ c .before .equal-runs .ensures)
+unfolding answerOf found
+returns-6 c =
+    let at-check = c .before .before .before .before .before .before .before in
+    compared-both _ _ _ _ _ _ _ (at-check .check-terms .ensures) (search needs) (search needs) (search needs) (sym (c .if6 .taken) ∙ c .before .equal-runs .ensures)
 
 returns-7 : tie.Need-returns-7
-unfolding answerOf
-returns-7 c = compared-both _ _ _ _ _ _ _ (c .before .before .before .before .before .before .before .check-terms .ensures) (search needs) (search needs) (search needs) (sym (c .if6 .left) ∙ c .before .equal-runs .ensures)
+unfolding answerOf found
+returns-7 c =
+    let at-check = c .before .before .before .before .before .before .before in
+    compared-both _ _ _ _ _ _ _ (at-check .check-terms .ensures) (search needs) (search needs) (search needs) (sym (c .if6 .left) ∙ c .before .equal-runs .ensures)
 
 pub compare-runs-spec : {M : Type 1} → statement M
-compare-runs-spec = tie.close (tie.spec check-terms-requires returns returns-2 returns-3 returns-4 returns-5 equal-runs-requires returns-6 returns-7)
+compare-runs-spec = tie.close (tie.spec (λ c κs. search needs) returns returns-2 returns-3 returns-4 returns-5 equal-runs-requires returns-6 returns-7)

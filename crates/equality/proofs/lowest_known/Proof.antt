@@ -24,7 +24,9 @@ returns : tie.Need-returns Inv-loop μ-loop
 returns c = c .before .before .loop .inv
 
 cast-next : tie.Need-cast-next Inv-loop μ-loop
-cast-next c = omega (arith, c .before .before .loop .inv .low, c .before .before .loop .inv .down (c .before .before .loop .at))
+cast-next c =
+    let at-loop = c .before .before in
+    omega (arith, at-loop .loop .inv .low, at-loop .loop .inv .down (at-loop .loop .at))
 
 sub-next : tie.Need-sub-next Inv-loop μ-loop
 sub-next c = c .before .before .loop .inv .down _
@@ -36,7 +38,9 @@ element-copy-out-more : tie.Need-element-copy-out-more Inv-loop μ-loop
 element-copy-out-more c = omega (arith, c .before .before .loop .inv .low)
 
 add-more : tie.Need-add-more Inv-loop μ-loop
-add-more c = omega (arith, c .before .before .before .loop .inv .low, twice-low (c .before .before .before .loop .inv))
+add-more c =
+    let at-loop = c .before .before .before in
+    omega (arith, at-loop .loop .inv .low, twice-low (at-loop .loop .inv))
 
 mul-known : tie.Need-mul-known Inv-loop μ-loop
 mul-known c = omega (arith, c .before .before .before .loop .inv .low)
@@ -45,7 +49,9 @@ element-write-known : tie.Need-element-write-known Inv-loop μ-loop
 element-write-known c = omega (arith, c .before .before .before .loop .inv .low)
 
 cast-at : tie.Need-cast-at Inv-loop μ-loop
-cast-at c = omega (arith, c .before .before .before .loop .inv .low, twice-low (c .before .before .before .loop .inv))
+cast-at c =
+    let at-loop = c .before .before .before in
+    omega (arith, at-loop .loop .inv .low, twice-low (at-loop .loop .inv))
 
 sub-at : tie.Need-sub-at Inv-loop μ-loop
 sub-at c = twice-low (c .before .before .before .loop .inv)

@@ -13,12 +13,9 @@ returns-2 : tie.Need-returns-2
 unfolding columnOf
 returns-2 c = column-none _ _ (search needs) (search needs)
 
-add-result : tie.Need-add-result
-add-result c = search needs
-
 returns-3 : tie.Need-returns-3
 unfolding columnOf
 returns-3 c = column-some _ _ (search needs) (search needs)
 
 pub column-of-spec : {M : Type 1} → statement M
-column-of-spec = tie.close (tie.spec returns returns-2 add-result returns-3)
+column-of-spec = tie.close (tie.spec returns returns-2 (λ c. search needs) returns-3)

@@ -6,18 +6,9 @@ use Rattle.kinds.proofs.takes.Statement.{statement}
 use Rattle.kinds.proofs.takes.Tie as tie
 use mathlib.Core.Path.{refl}
 
-mul-result : tie.Need-mul-result
-mul-result c = search needs
-
-index-1-result : tie.Need-index-1-result
-index-1-result c = search needs
-
-index-2-result : tie.Need-index-2-result
-index-2-result c = search needs
-
 returns : tie.Need-returns
 unfolding takesAt takesTable
 returns c = refl
 
 pub takes-spec : {M : Type 1} → statement M
-takes-spec = tie.close (tie.spec mul-result index-1-result index-2-result returns)
+takes-spec = tie.close (tie.spec (λ c. search needs) (λ c. search needs) (λ c. search needs) returns)

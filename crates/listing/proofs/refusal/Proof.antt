@@ -8,58 +8,71 @@ use Rattle.listing.specs.RefusalLaws.{refusal-first, refusal-short, refu
 use Rattle.listing.proofs.refusal.Statement.{statement}
 use Rattle.listing.proofs.refusal.Tie as tie
 
-request-even-requires : tie.Need-request-even-requires
-request-even-requires c κs = search needs
-
-check-requires : tie.Need-check-requires
-check-requires c κs = search needs
-
 returns : tie.Need-returns
 returns c = refusal-first _ _ _ _ (c .before .before .request-even .ensures) (c .before .check .ensures) (c .if1 .taken)
-
-bindings-inside-requires : tie.Need-bindings-inside-requires
-bindings-inside-requires c κs = search needs
 
 returns-2 : tie.Need-returns-2
 unfolding ask numbered
 returns-2 c =
-    refusal-later _ _ _ _ (c .before .before .before .before .request-even .ensures) (c .before .before .before .check .ensures) (c .before .before .if1 .left) (sym (not-true _ (c .if2 .taken)) ∙ c .before .bindings-inside .ensures) refl refl
+    let at-check = c .before .before .before in
+    let at-request-even = at-check .before in
+    refusal-later _ _ _ _ (at-request-even .request-even .ensures) (at-check .check .ensures) (c .before .before .if1 .left)
+    (sym (not-true _ (c .if2 .taken)) ∙ c .before .bindings-inside .ensures) refl refl
 
 pattern-ok-requires : tie.Need-pattern-ok-requires
-pattern-ok-requires c κs = refusal-short _ _ _ _ (c .before .before .before .before .request-even .ensures) (c .before .before .before .check .ensures) (c .before .before .if1 .left)
+pattern-ok-requires c κs =
+    let at-check = c .before .before .before in
+    let at-request-even = at-check .before in
+    refusal-short _ _ _ _ (at-request-even .request-even .ensures) (at-check .check .ensures) (c .before .before .if1 .left)
 
 returns-3 : tie.Need-returns-3
 unfolding ask numbered
 returns-3 c =
-    refusal-later _ _ _ _ (c .before .before .before .before .before .before .request-even .ensures) (c .before .before .before .before .before .check .ensures) (c .before .before .before .before .if1 .left) (sym (not-false _ (c .before .before .if2 .left)) ∙ c .before .before .before .bindings-inside .ensures)
+    let at-bindings-inside = c .before .before .before in
+    let at-if1 = at-bindings-inside .before in
+    let at-check = at-if1 .before in
+    let at-request-even = at-check .before in
+    refusal-later _ _ _ _ (at-request-even .request-even .ensures) (at-check .check .ensures) (at-if1 .if1 .left)
+    (sym (not-false _ (c .before .before .if2 .left)) ∙ at-bindings-inside .bindings-inside .ensures)
     (sym (not-true _ (c .if3 .taken)) ∙ c .before .pattern-ok .ensures) refl
-
-bindings-ok-requires : tie.Need-bindings-ok-requires
-bindings-ok-requires c κs = search needs
 
 returns-4 : tie.Need-returns-4
 unfolding ask numbered
 returns-4 c =
-    refusal-later _ _ _ _ (c .before .before .before .before .before .before .before .before .request-even .ensures) (c .before .before .before .before .before .before .before .check .ensures) (c .before .before .before .before .before .before .if1 .left) (sym (not-false _ (c .before .before .before .before .if2 .left)) ∙ c .before .before .before .before .before .bindings-inside .ensures)
-    (sym (not-false _ (c .before .before .if3 .left)) ∙ c .before .before .before .pattern-ok .ensures) (sym (not-true _ (c .if4 .taken)) ∙ c .before .bindings-ok .ensures)
+    let at-pattern-ok = c .before .before .before in
+    let at-if2 = at-pattern-ok .before in
+    let at-bindings-inside = at-if2 .before in
+    let at-if1 = at-bindings-inside .before in
+    let at-check = at-if1 .before in
+    let at-request-even = at-check .before in
+    refusal-later _ _ _ _ (at-request-even .request-even .ensures) (at-check .check .ensures) (at-if1 .if1 .left)
+    (sym (not-false _ (at-if2 .if2 .left)) ∙ at-bindings-inside .bindings-inside .ensures)
+    (sym (not-false _ (c .before .before .if3 .left)) ∙ at-pattern-ok .pattern-ok .ensures) (sym (not-true _ (c .if4 .taken)) ∙ c .before .bindings-ok .ensures)
 
 returns-5 : tie.Need-returns-5
 unfolding ask numbered
 returns-5 c =
-    refusal-later _ _ _ _ (c .before .before .before .before .before .before .before .before .request-even .ensures) (c .before .before .before .before .before .before .before .check .ensures) (c .before .before .before .before .before .before .if1 .left) (sym (not-false _ (c .before .before .before .before .if2 .left)) ∙ c .before .before .before .before .before .bindings-inside .ensures)
-    (sym (not-false _ (c .before .before .if3 .left)) ∙ c .before .before .before .pattern-ok .ensures) (sym (not-false _ (c .if4 .left)) ∙ c .before .bindings-ok .ensures)
+    let at-pattern-ok = c .before .before .before in
+    let at-if2 = at-pattern-ok .before in
+    let at-bindings-inside = at-if2 .before in
+    let at-if1 = at-bindings-inside .before in
+    let at-check = at-if1 .before in
+    let at-request-even = at-check .before in
+    refusal-later _ _ _ _ (at-request-even .request-even .ensures) (at-check .check .ensures) (at-if1 .if1 .left)
+    (sym (not-false _ (at-if2 .if2 .left)) ∙ at-bindings-inside .bindings-inside .ensures)
+    (sym (not-false _ (c .before .before .if3 .left)) ∙ at-pattern-ok .pattern-ok .ensures) (sym (not-false _ (c .if4 .left)) ∙ c .before .bindings-ok .ensures)
 
 pub refusal-spec : {M : Type 1} → statement M
 refusal-spec =
     tie.close
     (tie.spec
-    request-even-requires
-    check-requires
+    (λ c κs. search needs)
+    (λ c κs. search needs)
     returns
-    bindings-inside-requires
+    (λ c κs. search needs)
     returns-2
     pattern-ok-requires
     returns-3
-    bindings-ok-requires
+    (λ c κs. search needs)
     returns-4
     returns-5)

@@ -7,14 +7,8 @@ use Rattle.listing.proofs.slots_in.Tie as tie
 returns : tie.Need-returns
 returns c = slots-one _ _ (c .if1 .taken)
 
-mul-result : tie.Need-mul-result
-mul-result c = search needs
-
-div-result : tie.Need-div-result
-div-result c = search needs
-
 returns-2 : tie.Need-returns-2
 returns-2 c = slots-more _ _ (c .if1 .left)
 
 pub slots-in-spec : {M : Type 1} → statement M
-slots-in-spec = tie.close (tie.spec returns mul-result div-result returns-2)
+slots-in-spec = tie.close (tie.spec returns (λ c. search needs) (λ c. search needs) returns-2)

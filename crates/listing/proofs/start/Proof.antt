@@ -68,7 +68,10 @@ loop-less : tie.Need-loop-less Inv-loop μ-loop
 loop-less c = omega arith
 
 loop-again : tie.Need-loop-again Inv-loop μ-loop
-loop-again c = let o = c .before .before .before .loop .inv in (copied-more _ _ _ (o .0) (c .before .before .loop-test .taken) (c .before .before .before .before .pre .0), simp length-set (o .1))
+loop-again c =
+    let at-loop = c .before .before .before in
+    let at-start = at-loop .before in
+    let o = at-loop .loop .inv in (copied-more _ _ _ (o .0) (c .before .before .loop-test .taken) (at-start .pre .0), simp length-set (o .1))
 
 same-length : tie.Need-same-length Inv-loop μ-loop
 same-length c = c .before .loop .inv .1

@@ -4,8 +4,8 @@ use mathlib.Core.List.{List}
 use native.Mathlib.Omega.{arith}
 use Prim.Native.Nat.{ℕ, _/_}
 use lib.ListN.{length, replicate, length-replicate}
-use Rattle.matcher.specs.FoldLaws.{takes-given}
-use Rattle.listing.specs.StartLaws.{start-levels, start-entries}
+use Rattle.matcher.specs.FoldLaws.{written-same}
+use Rattle.listing.specs.StartLaws.{start-levels, start-entries, start-events}
 use borrow.Author.Needs.{needs}
 use Rattle.steps.specs.State.{Place}
 use Rattle.listing.proofs.walk_from.Statement.{statement}
@@ -15,46 +15,33 @@ use Rattle.listing.proofs.walk_from.Tie as tie
 abbrev place : ℕ → ℕ → ℕ → List ℕ → Place
 place start len words binds = record { start = start; len = len; depth = 0; bound = words / 5; levels = replicate 66 0; binds = binds }
 
-slice-aggregate-start : tie.Need-slice-aggregate-start
-slice-aggregate-start c = search needs
-
-start-requires : tie.Need-start-requires
-start-requires c κs = search needs
-
-slice-aggregate-walk : tie.Need-slice-aggregate-walk
-slice-aggregate-walk c = search needs
-
-slice-aggregate-walk-2 : tie.Need-slice-aggregate-walk-2
-slice-aggregate-walk-2 c = search needs
-
 walk-requires : tie.Need-walk-requires
 walk-requires c κs =
-    let e = c .before .before .before .before .start .ensures in
-    let a = c .before .before .before .before .before .before .before .before .before .before .before .before .args in
-    let st = place (a .run .start) (a .run .len) (length (a .bindings .now)) (c .before .before .before .before .start .last .1 .0) in (
-      c .before .before .before .before .before .before .before .before .before .before .before .before .pre .1 st (start-levels st refl) (start-entries (a .bindings .now) st refl e) (omega (arith, length-replicate {A = ℕ} 66 0)) (omega (arith, c .before .before .before .before .start .kept .1 .0, length-replicate {A = ℕ} 128 0)),
-      omega arith,
+    let at-copied = c .before .before .before .before in
+    let at-start = at-copied .before .before .before .before .before .before .before .before in
+    let a = at-start .args in
+    let st = place (a .run .start) (a .run .len) (length (a .bindings .now)) (at-copied .start .last .1 .0) in (
+      at-start .pre .1 .0 st (start-levels st refl) (start-entries (a .bindings .now) st refl (at-copied .start .ensures)) (omega (arith, length-replicate {A = ℕ} 66 0))
+          (omega (arith, at-copied .start .kept .1 .0, length-replicate {A = ℕ} 128 0)),
+      at-start .pre .1 .1,
     )
-
-same-length : tie.Need-same-length
-same-length c = search needs
 
 returns : tie.Need-returns
 returns c =
-    let e = c .before .before .before .before .before .before .before .before .before .start .ensures in
-    let a = c .before .before .before .before .before .before .before .before .before .before .before .before .before .before .before .before .before .args in
-    let st = place (a .run .start) (a .run .len) (length (a .bindings .now)) (c .before .before .before .before .before .before .before .before .before .start .last .1 .0) in
-    let w = c .before .before .before .before .walk .ensures in
-    (takes-given _ _ _ _ _ (w .0) (start-levels st refl) (start-entries (a .bindings .now) st refl e), w .1)
+    let at-walk = c .before .before .before .before in
+    let at-copied = at-walk .before .before .before .before .before in
+    let a = at-copied .before .before .before .before .before .before .before .before .args in
+    let st = place (a .run .start) (a .run .len) (length (a .bindings .now)) (at-copied .start .last .1 .0) in
+    written-same (start-events _ st (start-levels st refl) (start-entries (a .bindings .now) st refl (at-copied .start .ensures))) (at-walk .walk .ensures .written)
 
 pub walk-from-spec : {M : Type 1} → statement M
 walk-from-spec =
     tie.close
     (tie.spec
-    slice-aggregate-start
-    start-requires
-    slice-aggregate-walk
-    slice-aggregate-walk-2
+    (λ c. search needs)
+    (λ c κs. search needs)
+    (λ c. search needs)
+    (λ c. search needs)
     walk-requires
-    same-length
+    (λ c. search needs)
     returns)

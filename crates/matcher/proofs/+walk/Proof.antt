@@ -1,39 +1,29 @@
--- `walk`: what is taken in of the events from a record on. A record does one turn (`step`), and the walk goes on at the next; the loop over
--- the splits keeps that what is left comes to the whole. The words of the levels are put back, and the entries known stay.
+-- `walk`: what is taken in of the events from a record on. A record takes its turn, and the walk goes on at the next; the loop over the splits
+-- keeps that what is left comes to the whole. The words of the levels are put back, and the entries known stay.
 use borrow.Author.Needs.{needs}
 use native.Mathlib.Omega.{arith}
-use mathlib.Core.Path.{_≡_, refl, ap, sym, _∙_}
-use mathlib.Core.Bool.{true}
-use mathlib.Core.List.{[], map}
-use lib.ListN.{length, drop}
-use Rattle.term_spec.specs.Words.{decode}
-use Rattle.term_spec.specs.Term.{termLayout}
-use Rattle.match_spec.specs.Walk.{cellsOf, rigidFits, runs, upto}
-use Rattle.match_spec.specs.Answer.{absorb}
-use Rattle.steps.specs.Turn.{oneSplit}
-use Rattle.steps.specs.State.{stackOf, entriesIn}
-use Rattle.steps.specs.ArrayLaws.{entries-fewer}
-use Rattle.matcher.specs.Ready.{patternIn, progressOf, wantedOf}
-use Rattle.matcher.specs.WalkedLaws.{stopped, ready-stands, ready-more, ready-hit, ready-apart, ready-item, ready-fine, turn-stop, turn-call, turn-next, ready-next, next-grows, split-inside, split-bound, split-known, split-ready, split-same, turn-split, split-into, splits-to, given-levels, given-entries, given-kept, stop-here, call-here, split-here, put-same, ready-slots, there, not-there, number-there}
-use Rattle.matcher.specs.FoldLaws.{filled-same, Looping, loop-start, loop-done, loop-into, loop-stops, loop-to, takes-none, takes-same, takes-call, takes-given}
-use Prim.Native.Nat.{ℕ, suc, zero, _+_, _-_, _/_, _<_, _≤_}
+use mathlib.Core.Path.{refl, ap}
+use lib.ListN.{length}
+use Rattle.steps.specs.State.{placeOf}
+use Rattle.matcher.specs.Ready.{givenOf}
+use Rattle.matcher.specs.FoldLaws.{written-none, written-call, written-same}
+use Rattle.matcher.specs.WalkedLaws.{ready-stands, ready-more, ready-hit, turn-stop, turn-call, stop-same, call-same, ready-next, next-walked, there, not-there}
+use Rattle.matcher.specs.SplitLaws.{Splitting, splitting-start, split-inside, split-bound, split-known, split-slots, split-ready, splitting-done, given-kept, splitting-stops, splitting-next}
+use Prim.Native.Nat.{ℕ, suc, _+_, _-_, _/_, _<_, _≤_}
 use borrow.Fn.Kinds.{In}
 use borrow.Fn.PlainCycle.{Measures, is, falls, and}
 use Rattle.matcher.proofs.walk.Reads as walk
 use Rattle.matcher.proofs.walk.Kinds as walk-kinds
 use Rattle.matcher.proofs.+walk.Lts-walk as walk-lts
-use Rattle.items.proofs.get_item.Reads as get-item-reads
 use Rattle.matcher.proofs.emit.Reads as emit-reads
+use Rattle.matcher.proofs.take_turn.Reads as take-turn-reads
 use Rattle.rigid.proofs.next_split.Reads as next-split-reads
-use Rattle.steps.proofs.ends_at.Reads as ends-at-reads
-use Rattle.steps.proofs.ends_apart.Reads as ends-apart-reads
 use Rattle.steps.proofs.give.Reads as give-reads
 use Rattle.steps.proofs.put_back.Reads as put-back-reads
-use Rattle.steps.proofs.step.Reads as step-reads
-use Rattle.words.proofs.word.Reads as word-reads
 use Rattle.matcher.proofs.+walk.{statement}
 use Rattle.matcher.proofs.+walk.Tie.{close}
 
+-- the records of the pattern that are left
 abbrev μ-walk : Measures 7 walk-kinds.ps ℕ
 μ-walk κs a = length (a .1 .1 .1 .0 .now) / 4 - a .1 .1 .1 .1 .1 .0
 
@@ -43,330 +33,356 @@ walk-at t = and 7 walk-kinds.ps (is 7 walk-kinds.ps μ-walk t) walk.Pre
 abbrev walk-below : ℕ → In 7 walk-kinds.ps
 walk-below t = and 7 walk-kinds.ps (falls 7 walk-kinds.ps _<_ μ-walk t) walk.Pre
 
-abbrev walk-Inv-loop : walk-lts.InvT-loop
-walk-Inv-loop names terms used pattern numbers p entries levels₀ binds₀ cap head limited limit slots₀ x last d kept-start kept-len at len got₀ k₀ levels binds slots got k =
-    Looping (wantedOf head) cap entries (oneSplit (runs names (decode termLayout used terms)) (drop (p + 1) (patternIn names pattern numbers)) (record { start = at .start; len = at .len }) (stackOf (at .depth) levels₀) (entriesIn (at .bound) binds₀)) len
-    (absorb (wantedOf head) cap (upto (oneSplit (runs names (decode termLayout used terms)) (drop (p + 1) (patternIn names pattern numbers)) (record { start = at .start; len = at .len }) (stackOf (at .depth) levels₀) (entriesIn (at .bound) binds₀)) len) (progressOf entries got₀ slots₀))
-    got₀ got slots₀ slots k
-    × (k ≤ len → rigidFits (drop (p + 1) (patternIn names pattern numbers)) zero (map (cellsOf names (decode termLayout used terms)) (entriesIn (at .bound) binds₀)) (cellsOf names (decode termLayout used terms) (record { start = at .start + k; len = at .len - k })) ≡ true)
-    × (levels ≡ levels₀) × (entriesIn (at .bound) binds ≡ entriesIn (at .bound) binds₀) × (length binds ≡ length binds₀) × (length slots ≡ length slots₀)
+abbrev Inv-loop : walk-lts.InvT-loop
+Inv-loop names terms used pattern numbers p levels₀ binds₀ g slots₀ d at len got₀ k₀ levels binds slots got k =
+    Splitting (givenOf names terms used pattern numbers) p g (placeOf at levels₀ binds₀) got₀ slots₀ levels binds slots got k
 
-abbrev walk-μ-loop : walk-lts.MeasureT-loop
-walk-μ-loop names terms used pattern numbers p entries levels₀ binds₀ cap head limited limit slots₀ x last d kept-start kept-len at len got₀ k₀ levels binds slots got k =
-    suc len - k
+abbrev μ-loop : walk-lts.MeasureT-loop
+μ-loop names terms used pattern numbers p levels₀ binds₀ g slots₀ d at len got₀ k₀ levels binds slots got k = suc len - k
 
 abbrev R : ℕ → walk-lts.Claims
-R t = (emit-reads.Asked, emit-reads.Learnt, get-item-reads.Asked, get-item-reads.Learnt, word-reads.Asked, word-reads.Learnt, ends-at-reads.Asked, ends-at-reads.Learnt, ends-apart-reads.Asked, ends-apart-reads.Learnt, step-reads.Asked, step-reads.Learnt, walk-below t, walk.Post, put-back-reads.Asked, put-back-reads.Learnt, next-split-reads.Asked, next-split-reads.Learnt, give-reads.Asked, give-reads.Learnt)
+R t = (
+  emit-reads.Asked,
+  emit-reads.Learnt,
+  take-turn-reads.Asked,
+  take-turn-reads.Learnt,
+  walk-below t,
+  walk.Post,
+  put-back-reads.Asked,
+  put-back-reads.Learnt,
+  next-split-reads.Asked,
+  next-split-reads.Learnt,
+  give-reads.Asked,
+  give-reads.Learnt,
+)
 
-walk-returns : (t : ℕ) → walk-lts.Need-returns (R t) (walk-at t) walk.Post walk-Inv-loop walk-μ-loop
-walk-returns t c = (sym (stopped _ _ _ _ _ (c .if1 .taken)), filled-same _ _ _ _ _ refl (c .before .before .before .before .before .before .before .before .before .pre .1 .1), refl, refl)
+module _ (t : ℕ) where
+  -- ---- places: the start, a record that is there, its turn taken, the loop, and the walk at a split done ----
 
-walk-returns-2 : (t : ℕ) → walk-lts.Need-returns-2 (R t) (walk-at t) walk.Post walk-Inv-loop walk-μ-loop
-walk-returns-2 t c = (takes-none _ _ _ _ (ready-more (c .before .before .before .before .before .before .before .before .before .before .before .before .pre .1 .0) (not-there _ _ (c .before .before .if2 .taken)) (c .if3 .taken)), filled-same _ _ _ _ _ refl (c .before .before .before .before .before .before .before .before .before .before .before .before .pre .1 .1), refl, refl)
+  abbrev Start : Type 0
+  Start = walk-lts.Start (R t) (walk-at t) walk.Post Inv-loop μ-loop
 
-walk-emit-requires : (t : ℕ) → walk-lts.Need-emit-requires (R t) (walk-at t) walk.Post walk-Inv-loop walk-μ-loop
-walk-emit-requires t c κs = let y = c .before .before .before .before .before .before .before .before .before .before .before .before .before .before .pre .1 .0 in ((y .names-few, y .entry-room, y .room), (search needs, c .before .before .before .before .before .before .before .before .before .before .before .before .before .before .pre .1 .1))
+  abbrev AtRecord : Type 0
+  AtRecord = walk-lts.Else1 (R t) (walk-at t) walk.Post Inv-loop μ-loop
 
-walk-same-length : (t : ℕ) → walk-lts.Need-same-length (R t) (walk-at t) walk.Post walk-Inv-loop walk-μ-loop
-walk-same-length t c = search needs
+  abbrev AtTurn : Type 0
+  AtTurn = walk-lts.After-take-turn (R t) (walk-at t) walk.Post Inv-loop μ-loop
 
-walk-same-length-2 : (t : ℕ) → walk-lts.Need-same-length-2 (R t) (walk-at t) walk.Post walk-Inv-loop walk-μ-loop
-walk-same-length-2 t c = search needs
+  abbrev AtMatch : Type 0
+  AtMatch = walk-lts.After-at (R t) (walk-at t) walk.Post Inv-loop μ-loop
 
-walk-returns-3 : (t : ℕ) → walk-lts.Need-returns-3 (R t) (walk-at t) walk.Post walk-Inv-loop walk-μ-loop
-walk-returns-3 t c = (takes-same _ _ _ _ _ (ready-hit (c .before .before .before .before .before .before .before .before .before .before .before .before .before .before .before .before .before .pre .1 .0) (not-there _ _ (c .before .before .before .before .before .before .before .if2 .taken)) (search needs)) (c .before .before .emit .ensures .0), c .before .before .emit .ensures .1, refl, refl)
+  abbrev AtLoop : Type 0
+  AtLoop = walk-lts.At-loop (R t) (walk-at t) walk.Post Inv-loop μ-loop
 
-walk-get-item-requires : (t : ℕ) → walk-lts.Need-get-item-requires (R t) (walk-at t) walk.Post walk-Inv-loop walk-μ-loop
-walk-get-item-requires t c κs = search needs
+  abbrev InLoop : Type 0
+  InLoop = walk-lts.In-loop (R t) (walk-at t) walk.Post Inv-loop μ-loop
 
-walk-word-requires : (t : ℕ) → walk-lts.Need-word-requires (R t) (walk-at t) walk.Post walk-Inv-loop walk-μ-loop
-walk-word-requires t c κs = number-there (c .before .before .before .before .before .before .before .before .before .before .before .pre .1 .0) (c .before .if2 .left)
+  abbrev AtWalk : Type 0
+  AtWalk = walk-lts.After-walk2 (R t) (walk-at t) walk.Post Inv-loop μ-loop
 
-walk-add-ends-at : (t : ℕ) → walk-lts.Need-add-ends-at (R t) (walk-at t) walk.Post walk-Inv-loop walk-μ-loop
-walk-add-ends-at t c = omega (arith, c .before .before .if2 .left, c .before .before .before .before .before .before .before .before .before .before .before .before .pre .1 .0 .short)
+  abbrev begin : AtRecord → Start
+  begin c = c .before .before .before .before .before .before .before .before
 
-walk-ends-at-requires : (t : ℕ) → walk-lts.Need-ends-at-requires (R t) (walk-at t) walk.Post walk-Inv-loop walk-μ-loop
-walk-ends-at-requires t c κs = search needs
+  abbrev record-of : AtTurn → AtRecord
+  record-of c = c .before .before .before
 
-walk-ends-apart-requires : (t : ℕ) → walk-lts.Need-ends-apart-requires (R t) (walk-at t) walk.Post walk-Inv-loop walk-μ-loop
-walk-ends-apart-requires t c κs = let y = c .before .before .before .before .before .before .before .before .before .before .before .before .before .before .pre .1 .0 in (ready-stands y .known .bound, y .entry-room)
+  abbrev turn-of : AtMatch → AtTurn
+  turn-of c = c .before .before .before .before .before
 
-walk-same-length-3 : (t : ℕ) → walk-lts.Need-same-length-3 (R t) (walk-at t) walk.Post walk-Inv-loop walk-μ-loop
-walk-same-length-3 t c = search needs
+  abbrev match-of : AtLoop → AtMatch
+  match-of c = c .before .before .before .before .before
 
-walk-returns-4 : (t : ℕ) → walk-lts.Need-returns-4 (R t) (walk-at t) walk.Post walk-Inv-loop walk-μ-loop
-walk-returns-4 t c = (takes-none _ _ _ _ (ready-apart (c .before .before .before .before .before .before .before .before .before .before .before .before .before .before .before .before .pre .1 .0) (there _ _ (c .before .before .before .before .before .before .if2 .left)) (c .before .before .before .before .before .get-item .ensures) (c .before .before .before .before .word .ensures) (c .before .ends-apart .ensures (c .if4 .taken)) (c .before .before .before .ends-at .ensures _ _)), filled-same _ _ _ _ _ refl (c .before .before .before .before .before .before .before .before .before .before .before .before .before .before .before .before .pre .1 .1), refl, refl)
+  abbrev loop-of : AtWalk → InLoop
+  loop-of c = c .before .before .before .before .before .before .before .before
 
-walk-mul-kept-start : (t : ℕ) → walk-lts.Need-mul-kept-start (R t) (walk-at t) walk.Post walk-Inv-loop walk-μ-loop
-walk-mul-kept-start t c = let y = c .before .before .before .before .before .before .before .before .before .before .before .before .before .before .before .before .pre .1 .0 in omega (arith, ready-stands y .depth, y .level-room)
+  -- where the walk stood before the turn
+  abbrev start-of : AtMatch → Start
+  start-of c = begin (record-of (turn-of c))
 
-walk-mul-kept-start-2 : (t : ℕ) → walk-lts.Need-mul-kept-start-2 (R t) (walk-at t) walk.Post walk-Inv-loop walk-μ-loop
-walk-mul-kept-start-2 t c = let y = c .before .before .before .before .before .before .before .before .before .before .before .before .before .before .before .before .pre .1 .0 in omega (arith, ready-stands y .depth, y .level-room)
+  -- ---- facts at these places ----
 
-walk-slice-read-kept-start : (t : ℕ) → walk-lts.Need-slice-read-kept-start (R t) (walk-at t) walk.Post walk-Inv-loop walk-μ-loop
-walk-slice-read-kept-start t c = let y = c .before .before .before .before .before .before .before .before .before .before .before .before .before .before .before .before .before .pre .1 .0 in omega (arith, ready-stands y .depth, y .level-room)
+  -- the next record's number fits
+  next-fits : (c : AtRecord) → begin c .args .p + 1 ≤ 65536
+  next-fits c = omega (arith, c .if1 .left, begin c .pre .1 .0 .pattern .short)
 
-walk-mul-kept-len : (t : ℕ) → walk-lts.Need-mul-kept-len (R t) (walk-at t) walk.Post walk-Inv-loop walk-μ-loop
-walk-mul-kept-len t c = let y = c .before .before .before .before .before .before .before .before .before .before .before .before .before .before .before .before .before .pre .1 .0 in omega (arith, ready-stands y .depth, y .level-room)
+  -- ---- exits before a turn ----
 
-walk-add-kept-len : (t : ℕ) → walk-lts.Need-add-kept-len (R t) (walk-at t) walk.Post walk-Inv-loop walk-μ-loop
-walk-add-kept-len t c = let y = c .before .before .before .before .before .before .before .before .before .before .before .before .before .before .before .before .before .pre .1 .0 in omega (arith, ready-stands y .depth, y .level-room)
+  returns : walk-lts.Need-returns (R t) (walk-at t) walk.Post Inv-loop μ-loop
+  returns c =
+      let at-end = c .before .before in
+      let at-start = at-end .before .before .before .before .before .before .before .before in record {
+        written = written-none _ _ _ (at-start .pre .1 .1 .most) (ready-more (at-start .pre .1 .0) (not-there _ _ (at-end .if1 .taken)) (c .if2 .taken));
+        levels-same = refl;
+        entries-same = refl;
+      }
 
-walk-mul-kept-len-2 : (t : ℕ) → walk-lts.Need-mul-kept-len-2 (R t) (walk-at t) walk.Post walk-Inv-loop walk-μ-loop
-walk-mul-kept-len-2 t c = let y = c .before .before .before .before .before .before .before .before .before .before .before .before .before .before .before .before .before .pre .1 .0 in omega (arith, ready-stands y .depth, y .level-room)
+  emit-requires : walk-lts.Need-emit-requires (R t) (walk-at t) walk.Post Inv-loop μ-loop
+  emit-requires c κs =
+      let at-start = c .before .before .before .before .before .before .before .before .before .before .before .before in
+      let y = at-start .pre .1 .0 in
+      ((y .names-few, y .entry-room), at-start .pre .1 .1)
 
-walk-slice-read-kept-len : (t : ℕ) → walk-lts.Need-slice-read-kept-len (R t) (walk-at t) walk.Post walk-Inv-loop walk-μ-loop
-walk-slice-read-kept-len t c = let y = c .before .before .before .before .before .before .before .before .before .before .before .before .before .before .before .before .before .before .pre .1 .0 in omega (arith, ready-stands y .depth, y .level-room)
+  returns-2 : walk-lts.Need-returns-2 (R t) (walk-at t) walk.Post Inv-loop μ-loop
+  returns-2 c =
+      let at-emit = c .before .before in
+      let at-empty = at-emit .before .before .before in
+      let at-end = at-empty .before .before in
+      let at-start = at-end .before .before .before .before .before .before .before .before in record {
+        written = written-same (ready-hit (at-start .pre .1 .0) (not-there _ _ (at-end .if1 .taken)) (at-empty .if2 .left)) (at-emit .emit .ensures);
+        levels-same = refl;
+        entries-same = refl;
+      }
 
-walk-step-requires : (t : ℕ) → walk-lts.Need-step-requires (R t) (walk-at t) walk.Post walk-Inv-loop walk-μ-loop
-walk-step-requires t c κs =
-    let y = c .before .before .before .before .before .before .before .before .before .before .before .before .before .before .before .before .before .before .before .before .pre .1 .0 in
-    let h = there _ _ (c .before .before .before .before .before .before .before .before .before .before .if2 .left) in
-    ((y .store, y .few, ready-stands y), (ready-item y h (c .before .before .before .before .before .before .before .before .before .get-item .ensures) (c .before .before .before .before .before .before .before .before .word .ensures), ready-fine y h (c .before .before .before .before .before .before .before .before .before .get-item .ensures) (c .before .before .before .before .before .before .before .before .word .ensures)))
+  -- ---- the turn, and where nothing comes after it ----
 
-walk-enum-told : (t : ℕ) → walk-lts.Need-enum-told (R t) (walk-at t) walk.Post walk-Inv-loop walk-μ-loop
-walk-enum-told t c = search needs
+  take-turn-requires : walk-lts.Need-take-turn-requires (R t) (walk-at t) walk.Post Inv-loop μ-loop
+  take-turn-requires c κs =
+      let at-record = c .before .before in
+      let at-start = begin at-record in
+      record { entries = at-start .args .g .entries; ready = at-start .pre .1 .0; there = there _ _ (at-record .if1 .left) }
 
-walk-enum-told-2 : (t : ℕ) → walk-lts.Need-enum-told-2 (R t) (walk-at t) walk.Post walk-Inv-loop walk-μ-loop
-walk-enum-told-2 t c = search needs
+  returns-4 : walk-lts.Need-returns-4 (R t) (walk-at t) walk.Post Inv-loop μ-loop
+  returns-4 c =
+      let at-match = c .before .before in
+      let turn = turn-of at-match .take-turn .ensures in
+      let e = c .enum-told .given .1 in record {
+        written = written-none _ _ _ (start-of at-match .pre .1 .1 .most) (turn-stop turn e);
+        levels-same = stop-same turn e;
+        entries-same = turn .entries-same;
+      }
 
-walk-enum-told-3 : (t : ℕ) → walk-lts.Need-enum-told-3 (R t) (walk-at t) walk.Post walk-Inv-loop walk-μ-loop
-walk-enum-told-3 t c = search needs
+  returns-5 : walk-lts.Need-returns-5 (R t) (walk-at t) walk.Post Inv-loop μ-loop
+  returns-5 c =
+      let at-match = c .before .before in
+      let at-record = record-of (turn-of at-match) in
+      let turn = turn-of at-match .take-turn .ensures in
+      let e = c .enum-told2 .given .1 in record {
+        written = written-call _ _ _ (start-of at-match .pre .1 .1 .most) (begin at-record .pre .1 .1 .goes) (turn-call turn e);
+        levels-same = call-same turn e;
+        entries-same = turn .entries-same;
+      }
 
-walk-add-walk : (t : ℕ) → walk-lts.Need-add-walk (R t) (walk-at t) walk.Post walk-Inv-loop walk-μ-loop
-walk-add-walk t c = omega (arith, c .before .before .before .before .before .before .before .before .before .before .before .before .before .before .before .before .before .before .if2 .left, (c .before .before .before .before .before .before .before .before .before .before .before .before .before .before .before .before .before .before .before .before .before .before .before .before .before .before .before .before .pre .1 .0) .short)
+  -- ---- the walk goes on at the next record ----
 
-walk-walk-requires : (t : ℕ) → walk-lts.Need-walk-requires (R t) (walk-at t) walk.Post walk-Inv-loop walk-μ-loop
-walk-walk-requires t c κs =
-    let y = (c .before .before .before .before .before .before .before .before .before .before .before .before .before .before .before .before .before .before .before .before .before .before .before .before .before .before .before .before .before .before .before .pre .1 .0) in (
-      omega (arith, c .before .before .before .before .before .before .before .before .before .before .before .before .before .before .before .before .before .before .before .before .before .if2 .left, c .before .before .before .before .before .before .before .before .before .before .before .before .before .before .before .before .before .before .before .before .before .before .before .before .before .before .before .before .before .before .before .pre .0),
-      (ready-next (c .before .before .before .before .before .before .before .before .before .before .before .before .before .before .before .before .before .before .before .before .before .before .before .before .before .before .before .before .before .before .before .pre .1 .0) (there _ _ (c .before .before .before .before .before .before .before .before .before .before .before .before .before .before .before .before .before .before .before .before .before .if2 .left)) (c .before .before .before .before .before .before .before .before .before .before .before .before .before .before .before .before .before .before .before .before .get-item .ensures) (c .before .before .before .before .before .before .before .before .before .before .before .before .before .before .before .before .before .before .before .word .ensures) (c .before .before .before .before .before .before .before .before .before .before .before .before .before .before .before .before .before .before .ends-at .ensures _ _) _ _ (c .before .before .before .before .before .before .before .before .before .before .step .ensures .0) (c .before .before .before .enum-told3 .given .1) (omega (arith, y .level-room, c .before .before .before .before .before .before .before .before .before .before .step .kept .1 .1 .1 .1 .1 .1 .1 .0)) (omega (arith, y .entry-room, c .before .before .before .before .before .before .before .before .before .before .step .kept .1 .1 .1 .1 .1 .1 .1 .1 .0)), c .before .before .before .before .before .before .before .before .before .before .before .before .before .before .before .before .before .before .before .before .before .before .before .before .before .before .before .before .before .before .before .pre .1 .1),
-    )
+  add-walk : walk-lts.Need-add-walk (R t) (walk-at t) walk.Post Inv-loop μ-loop
+  add-walk c = omega (arith, next-fits (record-of (turn-of (c .before .before))))
 
-walk-put-back-requires : (t : ℕ) → walk-lts.Need-put-back-requires (R t) (walk-at t) walk.Post walk-Inv-loop walk-μ-loop
-walk-put-back-requires t c κs =
-    let y = (c .before .before .before .before .before .before .before .before .before .before .before .before .before .before .before .before .before .before .before .before .before .before .before .before .before .before .before .before .before .before .before .before .before .before .before .before .before .before .before .pre .1 .0) in
-    (ready-stands y .depth, omega (arith, y .level-room, c .before .before .before .before .before .before .before .before .before .before .before .before .before .before .before .before .before .before .step .kept .1 .1 .1 .1 .1 .1 .1 .0, c .before .before .before .before .before .before .before .walk .kept .1 .1 .1 .1 .1 .1 .1 .1 .0))
+  walk-requires : walk-lts.Need-walk-requires (R t) (walk-at t) walk.Post Inv-loop μ-loop
+  walk-requires c κs =
+      let at-told = c .before .before .before in
+      let at-turn = turn-of (at-told .before .before) in
+      let at-start = begin (record-of at-turn) in
+      let y = at-start .pre .1 .0 in
+      let kept = at-turn .take-turn .kept in (
+        omega (arith, record-of at-turn .if1 .left, at-start .pre .0),
+        (
+          ready-next (at-turn .take-turn .ensures) y (at-told .enum-told3 .given .1)
+              (omega (arith, y .level-room, kept .1 .1 .1 .1 .1 .1 .1 .0)) (omega (arith, y .entry-room, kept .1 .1 .1 .1 .1 .1 .1 .1 .0)),
+          at-start .pre .1 .1,
+        ),
+      )
 
-walk-enum-told-4 : (t : ℕ) → walk-lts.Need-enum-told-4 (R t) (walk-at t) walk.Post walk-Inv-loop walk-μ-loop
-walk-enum-told-4 t c = search needs
+  put-back-requires : walk-lts.Need-put-back-requires (R t) (walk-at t) walk.Post Inv-loop μ-loop
+  put-back-requires c κs =
+      let at-walk = c .before .before .before .before .before .before .before in
+      let at-turn = turn-of (at-walk .before .before .before .before .before .before) in
+      let y = begin (record-of at-turn) .pre .1 .0 in
+      (ready-stands y .depth, omega (arith, y .level-room, at-turn .take-turn .kept .1 .1 .1 .1 .1 .1 .1 .0, at-walk .walk .kept .1 .1 .1 .1 .1 .1 .1 .0))
 
-walk-add-next-split : (t : ℕ) → walk-lts.Need-add-next-split (R t) (walk-at t) walk.Post walk-Inv-loop walk-μ-loop
-walk-add-next-split t c = omega (arith, c .before .before .before .before .before .before .before .before .before .before .before .before .before .before .before .before .before .before .if2 .left, (c .before .before .before .before .before .before .before .before .before .before .before .before .before .before .before .before .before .before .before .before .before .before .before .before .before .before .before .before .pre .1 .0) .short)
+  returns-6 : walk-lts.Need-returns-6 (R t) (walk-at t) walk.Post Inv-loop μ-loop
+  returns-6 c =
+      let at-put = c .before .before in
+      let at-walk = at-put .before .before .before .before .before .before .before .before in
+      let at-told = at-walk .before .before .before .before in
+      let turn = turn-of (at-told .before .before) .take-turn .ensures in
+      next-walked turn (at-told .enum-told3 .given .1) (at-walk .walk .ensures) (at-put .put-back .ensures)
 
-walk-next-split-requires : (t : ℕ) → walk-lts.Need-next-split-requires (R t) (walk-at t) walk.Post walk-Inv-loop walk-μ-loop
-walk-next-split-requires t c κs =
-    let y = (c .before .before .before .before .before .before .before .before .before .before .before .before .before .before .before .before .before .before .before .before .before .before .before .before .before .before .before .before .before .pre .1 .0) in
-    let e = c .before .enum-told4 .given .1 in
-    ((y .store, y .few, split-inside (c .before .before .before .before .before .before .before .before .before .before .before .before .before .before .before .before .before .before .before .before .before .before .before .before .before .before .before .before .before .pre .1 .0) (there _ _ (c .before .before .before .before .before .before .before .before .before .before .before .before .before .before .before .before .before .before .before .if2 .left)) (c .before .before .before .before .before .before .before .before .before .before .before .before .before .before .before .before .before .before .get-item .ensures) (c .before .before .before .before .before .before .before .before .before .before .before .before .before .before .before .before .before .word .ensures) (c .before .before .before .before .before .before .before .before .before .before .before .before .before .before .before .before .ends-at .ensures _ _) _ _ (c .before .before .before .before .before .before .before .before .step .ensures .0) e, split-known (c .before .before .before .before .before .before .before .before .before .before .before .before .before .before .before .before .before .before .before .before .before .before .before .before .before .before .before .before .before .pre .1 .0) (there _ _ (c .before .before .before .before .before .before .before .before .before .before .before .before .before .before .before .before .before .before .before .if2 .left)) (c .before .before .before .before .before .before .before .before .before .before .before .before .before .before .before .before .before .before .get-item .ensures) (c .before .before .before .before .before .before .before .before .before .before .before .before .before .before .before .before .before .word .ensures) (c .before .before .before .before .before .before .before .before .before .before .before .before .before .before .before .before .ends-at .ensures _ _) _ _ (c .before .before .before .before .before .before .before .before .step .ensures .0) e _ refl (omega (arith, y .entry-room, c .before .before .before .before .before .before .before .before .step .kept .1 .1 .1 .1 .1 .1 .1 .1 .0))), ((y .rule, y .short, y .numbered), omega arith))
+  -- ---- the loop over the splits ----
 
-walk-loop-holds : (t : ℕ) → walk-lts.Need-loop-holds (R t) (walk-at t) walk.Post walk-Inv-loop walk-μ-loop
-walk-loop-holds t c =
-    let o = splits-to _ _ _ _ _ _ _ refl (c .next-split .ensures) in
-    (loop-to _ _ _ _ _ _ _ _ _ (loop-start _ _ _ _ _ _ _ _ (c .before .before .before .before .before .before .before .before .before .before .before .before .before .before .before .before .before .before .before .before .before .if1 .left) (c .before .before .before .before .before .before .before .before .before .before .before .before .before .before .before .before .before .before .before .before .before .before .before .before .before .before .before .before .before .before .pre .1 .1) refl) (o .low) (o .high) (o .none), o .fits, refl, refl, refl, refl)
+  add-next-split : walk-lts.Need-add-next-split (R t) (walk-at t) walk.Post Inv-loop μ-loop
+  add-next-split c = omega (arith, next-fits (record-of (turn-of (c .before .before))))
 
-walk-give-requires : (t : ℕ) → walk-lts.Need-give-requires (R t) (walk-at t) walk.Post walk-Inv-loop walk-μ-loop
-walk-give-requires t c κs =
-    let y = (c .before .before .before .before .before .before .before .before .before .before .before .before .before .before .before .before .before .before .before .before .before .before .before .before .before .before .before .before .before .before .before .before .before .pre .1 .0) in
-    let e = c .before .before .before .before .before .enum-told4 .given .1 in
-    (c .before .loop-test .taken, omega (arith, split-inside (c .before .before .before .before .before .before .before .before .before .before .before .before .before .before .before .before .before .before .before .before .before .before .before .before .before .before .before .before .before .before .before .before .before .pre .1 .0) (there _ _ (c .before .before .before .before .before .before .before .before .before .before .before .before .before .before .before .before .before .before .before .before .before .before .before .if2 .left)) (c .before .before .before .before .before .before .before .before .before .before .before .before .before .before .before .before .before .before .before .before .before .before .get-item .ensures) (c .before .before .before .before .before .before .before .before .before .before .before .before .before .before .before .before .before .before .before .before .before .word .ensures) (c .before .before .before .before .before .before .before .before .before .before .before .before .before .before .before .before .before .before .before .before .ends-at .ensures _ _) _ _ (c .before .before .before .before .before .before .before .before .before .before .before .before .step .ensures .0) e, y .few), split-bound (c .before .before .before .before .before .before .before .before .before .before .before .before .before .before .before .before .before .before .before .before .before .before .before .before .before .before .before .before .before .before .before .before .before .pre .1 .0) (there _ _ (c .before .before .before .before .before .before .before .before .before .before .before .before .before .before .before .before .before .before .before .before .before .before .before .if2 .left)) (c .before .before .before .before .before .before .before .before .before .before .before .before .before .before .before .before .before .before .before .before .before .before .get-item .ensures) (c .before .before .before .before .before .before .before .before .before .before .before .before .before .before .before .before .before .before .before .before .before .word .ensures) (c .before .before .before .before .before .before .before .before .before .before .before .before .before .before .before .before .before .before .before .before .ends-at .ensures _ _) _ _ (c .before .before .before .before .before .before .before .before .before .before .before .before .step .ensures .0) e, omega (arith, y .entry-room, c .before .before .before .before .before .before .before .before .before .before .before .before .step .kept .1 .1 .1 .1 .1 .1 .1 .1 .0, c .before .before .loop .inv .4))
+  next-split-requires : walk-lts.Need-next-split-requires (R t) (walk-at t) walk.Post Inv-loop μ-loop
+  next-split-requires c κs =
+      let at-told = c .before in
+      let at-turn = turn-of (at-told .before .before) in
+      let y = begin (record-of at-turn) .pre .1 .0 in
+      let turn = at-turn .take-turn .ensures in
+      let e = at-told .enum-told4 .given .1 in
+      let known = split-known y turn e _ refl (omega (arith, y .entry-room, at-turn .take-turn .kept .1 .1 .1 .1 .1 .1 .1 .1 .0)) in
+      ((record { store = y .store; few = y .few; inside = split-inside y turn e }, known), (y .pattern, omega arith))
 
-walk-add-walk-2 : (t : ℕ) → walk-lts.Need-add-walk-2 (R t) (walk-at t) walk.Post walk-Inv-loop walk-μ-loop
-walk-add-walk-2 t c = omega (arith, c .before .before .before .before .before .before .before .before .before .before .before .before .before .before .before .before .before .before .before .before .before .before .before .before .before .before .if2 .left, (c .before .before .before .before .before .before .before .before .before .before .before .before .before .before .before .before .before .before .before .before .before .before .before .before .before .before .before .before .before .before .before .before .before .before .before .before .pre .1 .0) .short)
+  loop-holds : walk-lts.Need-loop-holds (R t) (walk-at t) walk.Post Inv-loop μ-loop
+  loop-holds c =
+      let at-match = c .before .before .before .before in
+      let at-record = record-of (turn-of at-match) in
+      splitting-start _ _ _ _ _ _ (begin at-record .pre .1 .1 .goes) (begin at-record .pre .1 .1 .most) (c .next-split .ensures)
 
-walk-walk-requires-2 : (t : ℕ) → walk-lts.Need-walk-requires-2 (R t) (walk-at t) walk.Post walk-Inv-loop walk-μ-loop
-walk-walk-requires-2 t c κs =
-    let y = (c .before .before .before .before .before .before .before .before .before .before .before .before .before .before .before .before .before .before .before .before .before .before .before .before .before .before .before .before .before .before .before .before .before .before .before .before .before .before .before .pre .1 .0) in
-    let e = c .before .before .before .before .before .before .before .before .before .before .before .enum-told4 .given .1 in
-    let o = c .before .before .before .before .before .before .before .before .loop .inv in (
-      omega (arith, c .before .before .before .before .before .before .before .before .before .before .before .before .before .before .before .before .before .before .before .before .before .before .before .before .before .before .before .before .before .if2 .left, c .before .before .before .before .before .before .before .before .before .before .before .before .before .before .before .before .before .before .before .before .before .before .before .before .before .before .before .before .before .before .before .before .before .before .before .before .before .before .before .pre .0),
-      (
-        ready-slots (split-ready (c .before .before .before .before .before .before .before .before .before .before .before .before .before .before .before .before .before .before .before .before .before .before .before .before .before .before .before .before .before .before .before .before .before .before .before .before .before .before .before .pre .1 .0) (there _ _ (c .before .before .before .before .before .before .before .before .before .before .before .before .before .before .before .before .before .before .before .before .before .before .before .before .before .before .before .before .before .if2 .left)) (c .before .before .before .before .before .before .before .before .before .before .before .before .before .before .before .before .before .before .before .before .before .before .before .before .before .before .before .before .get-item .ensures) (c .before .before .before .before .before .before .before .before .before .before .before .before .before .before .before .before .before .before .before .before .before .before .before .before .before .before .before .word .ensures) (c .before .before .before .before .before .before .before .before .before .before .before .before .before .before .before .before .before .before .before .before .before .before .before .before .before .before .ends-at .ensures _ _) _ _ (c .before .before .before .before .before .before .before .before .before .before .before .before .before .before .before .before .before .before .step .ensures .0) e _ (c .before .before .before .before .before .before .before .loop-test .taken)
-            (given-levels _ _ _ (c .before .before .before .before .before .give .ensures .0) _ _ [] (c .before .before .before .before .before .before .before .before .loop .inv .2)) (given-entries _ _ _ (c .before .before .before .before .before .give .ensures .0) _ _ _ (c .before .before .before .before .before .give .ensures .1) (c .before .before .before .before .before .before .before .before .loop .inv .3) [])
-            (omega (arith, y .level-room, c .before .before .before .before .before .before .before .before .before .before .before .before .before .before .before .before .before .before .step .kept .1 .1 .1 .1 .1 .1 .1 .0, ap length (o .2)))
-            (omega (arith, y .entry-room, c .before .before .before .before .before .before .before .before .before .before .before .before .before .before .before .before .before .before .step .kept .1 .1 .1 .1 .1 .1 .1 .1 .0, o .4, c .before .before .before .before .before .give .kept .1 .1 .0)))
-            (o .5),
-        o .0 .filled .most,
-      ),
-    )
+  give-requires : walk-lts.Need-give-requires (R t) (walk-at t) walk.Post Inv-loop μ-loop
+  give-requires c κs =
+      let at-loop = c .before .before in
+      let at-told = at-loop .before .before .before in
+      let at-turn = turn-of (match-of at-loop) in
+      let y = begin (record-of at-turn) .pre .1 .0 in
+      let turn = at-turn .take-turn .ensures in
+      let e = at-told .enum-told4 .given .1 in (
+        c .before .loop-test .taken,
+        omega (arith, split-inside y turn e, y .few),
+        split-bound y turn e,
+        omega (arith, y .entry-room, at-turn .take-turn .kept .1 .1 .1 .1 .1 .1 .1 .1 .0, at-loop .loop .inv .binds-length),
+      )
 
-walk-same-length-4 : (t : ℕ) → walk-lts.Need-same-length-4 (R t) (walk-at t) walk.Post walk-Inv-loop walk-μ-loop
-walk-same-length-4 t c = omega (arith, c .before .before .before .before .before .before .before .before .walk2 .kept .1 .1 .1 .1 .1 .1 .1 .1 .0, ap length (c .before .before .before .before .before .before .before .before .before .before .before .before .before .before .before .before .before .loop .inv .2), c .before .before .before .before .before .before .before .before .before .before .before .before .before .before .before .before .before .before .before .before .before .before .before .before .before .before .before .step .kept .1 .1 .1 .1 .1 .1 .1 .0)
+  add-walk-2 : walk-lts.Need-add-walk-2 (R t) (walk-at t) walk.Post Inv-loop μ-loop
+  add-walk-2 c = omega (arith, next-fits (record-of (turn-of (match-of (c .before .before .before .before .before)))))
 
-walk-same-length-5 : (t : ℕ) → walk-lts.Need-same-length-5 (R t) (walk-at t) walk.Post walk-Inv-loop walk-μ-loop
-walk-same-length-5 t c = omega (arith, c .before .before .before .before .before .before .before .before .walk2 .kept .1 .1 .1 .1 .1 .1 .1 .1 .1 .0, c .before .before .before .before .before .before .before .before .before .before .before .before .before .before .give .kept .1 .1 .0, c .before .before .before .before .before .before .before .before .before .before .before .before .before .before .before .before .before .loop .inv .4, c .before .before .before .before .before .before .before .before .before .before .before .before .before .before .before .before .before .before .before .before .before .before .before .before .before .before .before .step .kept .1 .1 .1 .1 .1 .1 .1 .1 .0)
+  walk-requires-2 : walk-lts.Need-walk-requires-2 (R t) (walk-at t) walk.Post Inv-loop μ-loop
+  walk-requires-2 c κs =
+      let at-give = c .before .before .before .before .before in
+      let at-loop = at-give .before .before .before in
+      let at-turn = turn-of (match-of at-loop) in
+      let at-start = begin (record-of at-turn) in
+      let y = at-start .pre .1 .0 in
+      let kept = at-turn .take-turn .kept in
+      let e = at-loop .before .before .before .enum-told4 .given .1 in
+      let o = at-loop .loop .inv in (
+        omega (arith, record-of at-turn .if1 .left, at-start .pre .0),
+        (
+          split-ready y (at-turn .take-turn .ensures) e o (at-give .before .before .loop-test .taken) _ (at-give .give .ensures .0) (at-give .give .ensures .1)
+              (omega (arith, y .level-room, kept .1 .1 .1 .1 .1 .1 .1 .0, ap length (o .levels-same)))
+              (omega (arith, y .entry-room, kept .1 .1 .1 .1 .1 .1 .1 .1 .0, o .binds-length, at-give .give .kept .1 .1 .0)),
+          split-slots o (at-start .pre .1 .1),
+        ),
+      )
 
-walk-same-length-6 : (t : ℕ) → walk-lts.Need-same-length-6 (R t) (walk-at t) walk.Post walk-Inv-loop walk-μ-loop
-walk-same-length-6 t c = search needs
+  same-length-3 : walk-lts.Need-same-length-3 (R t) (walk-at t) walk.Post Inv-loop μ-loop
+  same-length-3 c =
+      let at-walk = c .before .before .before .before .before .before .before .before in
+      let at-loop = loop-of at-walk .before in
+      omega (arith, ap length (at-loop .loop .inv .levels-same), turn-of (match-of at-loop) .take-turn .kept .1 .1 .1 .1 .1 .1 .1 .0, at-walk .walk2 .kept .1 .1 .1 .1 .1 .1 .1 .0)
 
-walk-returns-5 : (t : ℕ) → walk-lts.Need-returns-5 (R t) (walk-at t) walk.Post walk-Inv-loop walk-μ-loop
-walk-returns-5 t c =
-    let e = c .before .before .before .before .before .before .before .before .before .before .before .before .before .before .before .before .before .before .before .before .enum-told4 .given .1 in
-    let o = c .before .before .before .before .before .before .before .before .before .before .before .before .before .before .before .before .before .loop .inv in
-    let w = c .before .before .before .before .before .before .before .before .walk2 .ensures in
-    let z = loop-stops _ _ _ _ _ _ _ _ (o .0) (c .before .before .before .before .before .before .before .before .before .before .before .before .before .before .before .before .loop-test .taken) (split-into _ _ _ _ _ _ _ (o .1 (c .before .before .before .before .before .before .before .before .before .before .before .before .before .before .before .before .loop-test .taken)))
-    (takes-given _ _ _ _ _ (w .0) (given-levels _ _ _ (c .before .before .before .before .before .before .before .before .before .before .before .before .before .before .give .ensures .0) _ _ [] (c .before .before .before .before .before .before .before .before .before .before .before .before .before .before .before .before .before .loop .inv .2)) (given-entries _ _ _ (c .before .before .before .before .before .before .before .before .before .before .before .before .before .before .give .ensures .0) _ _ _ (c .before .before .before .before .before .before .before .before .before .before .before .before .before .before .give .ensures .1) (c .before .before .before .before .before .before .before .before .before .before .before .before .before .before .before .before .before .loop .inv .3) [])) (w .1) (c .if5 .taken) in (
-      takes-same _ _ _ _ _ (turn-split (c .before .before .before .before .before .before .before .before .before .before .before .before .before .before .before .before .before .before .before .before .before .before .before .before .before .before .before .before .before .before .before .before .before .before .before .before .before .before .before .before .before .before .before .before .before .before .before .before .pre .1 .0) (there _ _ (c .before .before .before .before .before .before .before .before .before .before .before .before .before .before .before .before .before .before .before .before .before .before .before .before .before .before .before .before .before .before .before .before .before .before .before .before .before .before .if2 .left)) (c .before .before .before .before .before .before .before .before .before .before .before .before .before .before .before .before .before .before .before .before .before .before .before .before .before .before .before .before .before .before .before .before .before .before .before .before .before .get-item .ensures) (c .before .before .before .before .before .before .before .before .before .before .before .before .before .before .before .before .before .before .before .before .before .before .before .before .before .before .before .before .before .before .before .before .before .before .before .before .word .ensures) (c .before .before .before .before .before .before .before .before .before .before .before .before .before .before .before .before .before .before .before .before .before .before .before .before .before .before .before .before .before .before .before .before .before .before .before .ends-at .ensures _ _) _ _ (c .before .before .before .before .before .before .before .before .before .before .before .before .before .before .before .before .before .before .before .before .before .before .before .before .before .before .before .step .ensures .0) e) (z .0),
-      z .1,
-      w .2 ∙ o .2 ∙ c .before .before .before .before .before .before .before .before .before .before .before .before .before .before .before .before .before .before .before .before .before .before .before .before .before .before .before .step .ensures .1 .same (split-here _ e),
-      split-same (c .before .before .before .before .before .before .before .before .before .before .before .before .before .before .before .before .before .before .before .before .before .before .before .before .before .before .before .before .before .before .before .before .before .before .before .before .before .before .before .before .before .before .before .before .before .before .before .before .pre .1 .0) (there _ _ (c .before .before .before .before .before .before .before .before .before .before .before .before .before .before .before .before .before .before .before .before .before .before .before .before .before .before .before .before .before .before .before .before .before .before .before .before .before .before .if2 .left)) (c .before .before .before .before .before .before .before .before .before .before .before .before .before .before .before .before .before .before .before .before .before .before .before .before .before .before .before .before .before .before .before .before .before .before .before .before .before .get-item .ensures) (c .before .before .before .before .before .before .before .before .before .before .before .before .before .before .before .before .before .before .before .before .before .before .before .before .before .before .before .before .before .before .before .before .before .before .before .before .word .ensures) (c .before .before .before .before .before .before .before .before .before .before .before .before .before .before .before .before .before .before .before .before .before .before .before .before .before .before .before .before .before .before .before .before .before .before .before .ends-at .ensures _ _) _ _ (c .before .before .before .before .before .before .before .before .before .before .before .before .before .before .before .before .before .before .before .before .before .before .before .before .before .before .before .step .ensures .0) e _ (given-kept _ _ _ (c .before .before .before .before .before .before .before .before .before .before .before .before .before .before .give .ensures .0) _ _ _ (c .before .before .before .before .before .before .before .before .before .before .before .before .before .before .give .ensures .1) (o .3) _ (w .3)),
-    )
+  same-length-4 : walk-lts.Need-same-length-4 (R t) (walk-at t) walk.Post Inv-loop μ-loop
+  same-length-4 c =
+      let at-walk = c .before .before .before .before .before .before .before .before in
+      let at-loop = loop-of at-walk .before in
+      let kept = turn-of (match-of at-loop) .take-turn .kept .1 .1 .1 .1 .1 .1 .1 .1 .0 in
+      omega (arith, at-loop .loop .inv .binds-length, kept, at-walk .before .before .before .before .before .before .give .kept .1 .1 .0, at-walk .walk2 .kept .1 .1 .1 .1 .1 .1 .1 .1 .0)
 
-walk-add-next-split-2 : (t : ℕ) → walk-lts.Need-add-next-split-2 (R t) (walk-at t) walk.Post walk-Inv-loop walk-μ-loop
-walk-add-next-split-2 t c = omega (arith, c .before .before .before .before .before .before .before .before .before .before .before .before .before .before .before .before .before .before .before .before .before .before .before .before .before .before .before .before .before .before .before .before .before .before .before .before .before .before .if2 .left, (c .before .before .before .before .before .before .before .before .before .before .before .before .before .before .before .before .before .before .before .before .before .before .before .before .before .before .before .before .before .before .before .before .before .before .before .before .before .before .before .before .before .before .before .before .before .before .before .before .pre .1 .0) .short)
+  returns-3 : walk-lts.Need-returns-3 (R t) (walk-at t) walk.Post Inv-loop μ-loop
+  returns-3 c =
+      let at-walk = c .before .before .before .before .before .before .before .before in
+      let at-give = at-walk .before .before .before .before .before .before in
+      let at-loop = at-give .before .before .before in
+      let at-turn = turn-of (match-of at-loop) in
+      splitting-stops (begin (record-of at-turn) .pre .1 .0) (at-turn .take-turn .ensures) (at-loop .before .before .before .enum-told4 .given .1) (at-loop .loop .inv)
+      (at-give .before .before .loop-test .taken) _ (at-give .give .ensures .0) (at-give .give .ensures .1) (at-walk .walk2 .ensures) (c .if3 .taken)
 
-walk-add-next-split-3 : (t : ℕ) → walk-lts.Need-add-next-split-3 (R t) (walk-at t) walk.Post walk-Inv-loop walk-μ-loop
-walk-add-next-split-3 t c = let e = c .before .before .before .before .before .before .before .before .before .before .before .before .before .before .before .before .before .before .before .before .before .enum-told4 .given .1 in omega (arith, c .before .before .before .before .before .before .before .before .before .before .before .before .before .before .before .before .before .loop-test .taken, split-inside (c .before .before .before .before .before .before .before .before .before .before .before .before .before .before .before .before .before .before .before .before .before .before .before .before .before .before .before .before .before .before .before .before .before .before .before .before .before .before .before .before .before .before .before .before .before .before .before .before .before .pre .1 .0) (there _ _ (c .before .before .before .before .before .before .before .before .before .before .before .before .before .before .before .before .before .before .before .before .before .before .before .before .before .before .before .before .before .before .before .before .before .before .before .before .before .before .before .if2 .left)) (c .before .before .before .before .before .before .before .before .before .before .before .before .before .before .before .before .before .before .before .before .before .before .before .before .before .before .before .before .before .before .before .before .before .before .before .before .before .before .get-item .ensures) (c .before .before .before .before .before .before .before .before .before .before .before .before .before .before .before .before .before .before .before .before .before .before .before .before .before .before .before .before .before .before .before .before .before .before .before .before .before .word .ensures) (c .before .before .before .before .before .before .before .before .before .before .before .before .before .before .before .before .before .before .before .before .before .before .before .before .before .before .before .before .before .before .before .before .before .before .before .before .ends-at .ensures _ _) _ _ (c .before .before .before .before .before .before .before .before .before .before .before .before .before .before .before .before .before .before .before .before .before .before .before .before .before .before .before .before .step .ensures .0) e, (c .before .before .before .before .before .before .before .before .before .before .before .before .before .before .before .before .before .before .before .before .before .before .before .before .before .before .before .before .before .before .before .before .before .before .before .before .before .before .before .before .before .before .before .before .before .before .before .before .before .pre .1 .0) .few)
+  add-next-split-2 : walk-lts.Need-add-next-split-2 (R t) (walk-at t) walk.Post Inv-loop μ-loop
+  add-next-split-2 c = omega (arith, next-fits (record-of (turn-of (match-of (loop-of (c .before .before .before .before .before .before .before .before) .before)))))
 
-walk-next-split-requires-2 : (t : ℕ) → walk-lts.Need-next-split-requires-2 (R t) (walk-at t) walk.Post walk-Inv-loop walk-μ-loop
-walk-next-split-requires-2 t c κs =
-    let y = (c .before .before .before .before .before .before .before .before .before .before .before .before .before .before .before .before .before .before .before .before .before .before .before .before .before .before .before .before .before .before .before .before .before .before .before .before .before .before .before .before .before .before .before .before .before .before .before .before .before .pre .1 .0) in
-    let e = c .before .before .before .before .before .before .before .before .before .before .before .before .before .before .before .before .before .before .before .before .before .enum-told4 .given .1 in
-    let o = c .before .before .before .before .before .before .before .before .before .before .before .before .before .before .before .before .before .before .loop .inv in
-    let k = given-kept _ _ _ (c .before .before .before .before .before .before .before .before .before .before .before .before .before .before .before .give .ensures .0) _ _ _ (c .before .before .before .before .before .before .before .before .before .before .before .before .before .before .before .give .ensures .1) (o .3) _ (c .before .before .before .before .before .before .before .before .before .walk2 .ensures .3) in (
-      (y .store, y .few, split-inside (c .before .before .before .before .before .before .before .before .before .before .before .before .before .before .before .before .before .before .before .before .before .before .before .before .before .before .before .before .before .before .before .before .before .before .before .before .before .before .before .before .before .before .before .before .before .before .before .before .before .pre .1 .0) (there _ _ (c .before .before .before .before .before .before .before .before .before .before .before .before .before .before .before .before .before .before .before .before .before .before .before .before .before .before .before .before .before .before .before .before .before .before .before .before .before .before .before .if2 .left)) (c .before .before .before .before .before .before .before .before .before .before .before .before .before .before .before .before .before .before .before .before .before .before .before .before .before .before .before .before .before .before .before .before .before .before .before .before .before .before .get-item .ensures) (c .before .before .before .before .before .before .before .before .before .before .before .before .before .before .before .before .before .before .before .before .before .before .before .before .before .before .before .before .before .before .before .before .before .before .before .before .before .word .ensures) (c .before .before .before .before .before .before .before .before .before .before .before .before .before .before .before .before .before .before .before .before .before .before .before .before .before .before .before .before .before .before .before .before .before .before .before .before .ends-at .ensures _ _) _ _ (c .before .before .before .before .before .before .before .before .before .before .before .before .before .before .before .before .before .before .before .before .before .before .before .before .before .before .before .before .step .ensures .0) e, split-known (c .before .before .before .before .before .before .before .before .before .before .before .before .before .before .before .before .before .before .before .before .before .before .before .before .before .before .before .before .before .before .before .before .before .before .before .before .before .before .before .before .before .before .before .before .before .before .before .before .before .pre .1 .0) (there _ _ (c .before .before .before .before .before .before .before .before .before .before .before .before .before .before .before .before .before .before .before .before .before .before .before .before .before .before .before .before .before .before .before .before .before .before .before .before .before .before .before .if2 .left)) (c .before .before .before .before .before .before .before .before .before .before .before .before .before .before .before .before .before .before .before .before .before .before .before .before .before .before .before .before .before .before .before .before .before .before .before .before .before .before .get-item .ensures) (c .before .before .before .before .before .before .before .before .before .before .before .before .before .before .before .before .before .before .before .before .before .before .before .before .before .before .before .before .before .before .before .before .before .before .before .before .before .word .ensures) (c .before .before .before .before .before .before .before .before .before .before .before .before .before .before .before .before .before .before .before .before .before .before .before .before .before .before .before .before .before .before .before .before .before .before .before .before .ends-at .ensures _ _) _ _ (c .before .before .before .before .before .before .before .before .before .before .before .before .before .before .before .before .before .before .before .before .before .before .before .before .before .before .before .before .step .ensures .0) e _ k (omega (arith, y .entry-room, c .before .before .before .before .before .before .before .before .before .before .before .before .before .before .before .before .before .before .before .before .before .before .before .before .before .before .before .before .step .kept .1 .1 .1 .1 .1 .1 .1 .1 .0, o .4, c .before .before .before .before .before .before .before .before .before .before .before .before .before .before .before .give .kept .1 .1 .0, c .before .before .before .before .before .before .before .before .before .walk2 .kept .1 .1 .1 .1 .1 .1 .1 .1 .1 .0))),
-      ((y .rule, y .short, y .numbered), omega (arith, c .before .before .before .before .before .before .before .before .before .before .before .before .before .before .before .before .before .loop-test .taken)),
-    )
+  add-next-split-3 : walk-lts.Need-add-next-split-3 (R t) (walk-at t) walk.Post Inv-loop μ-loop
+  add-next-split-3 c =
+      let in-loop = loop-of (c .before .before .before .before .before .before .before .before .before) in
+      let at-turn = turn-of (match-of (in-loop .before)) in
+      let y = begin (record-of at-turn) .pre .1 .0 in
+      omega (arith, in-loop .loop-test .taken, split-inside y (at-turn .take-turn .ensures) (in-loop .before .before .before .before .enum-told4 .given .1), y .few)
 
-walk-loop-less : (t : ℕ) → walk-lts.Need-loop-less (R t) (walk-at t) walk.Post walk-Inv-loop walk-μ-loop
-walk-loop-less t c = omega (arith, c .next-split2 .ensures .low, c .before .before .before .before .before .before .before .before .before .before .before .before .before .before .before .before .before .before .loop-test .taken)
+  next-split-requires-2 : walk-lts.Need-next-split-requires-2 (R t) (walk-at t) walk.Post Inv-loop μ-loop
+  next-split-requires-2 c κs =
+      let at-walk = c .before .before .before .before .before .before .before .before .before in
+      let at-give = at-walk .before .before .before .before .before .before in
+      let in-loop = at-give .before .before in
+      let at-loop = in-loop .before in
+      let at-turn = turn-of (match-of at-loop) in
+      let y = begin (record-of at-turn) .pre .1 .0 in
+      let turn = at-turn .take-turn .ensures in
+      let e = at-loop .before .before .before .enum-told4 .given .1 in
+      let o = at-loop .loop .inv in
+      let same = given-kept y turn e o (in-loop .loop-test .taken) _ (at-give .give .ensures .0) (at-give .give .ensures .1) (at-walk .walk2 .ensures) in (
+        (
+          record { store = y .store; few = y .few; inside = split-inside y turn e },
+          split-known y turn e _ same (omega (
+            arith,
+            y .entry-room,
+            at-turn .take-turn .kept .1 .1 .1 .1 .1 .1 .1 .1 .0,
+            o .binds-length,
+            at-give .give .kept .1 .1 .0,
+            at-walk .walk2 .kept .1 .1 .1 .1 .1 .1 .1 .1 .0,
+          )),
+        ),
+        (y .pattern, omega (arith, in-loop .loop-test .taken)),
+      )
 
-walk-loop-again : (t : ℕ) → walk-lts.Need-loop-again (R t) (walk-at t) walk.Post walk-Inv-loop walk-μ-loop
-walk-loop-again t c =
-    let o = c .before .before .before .before .before .before .before .before .before .before .before .before .before .before .before .before .before .before .before .loop .inv in
-    let w = c .before .before .before .before .before .before .before .before .before .before .walk2 .ensures in
-    let k = given-kept _ _ _ (c .before .before .before .before .before .before .before .before .before .before .before .before .before .before .before .before .give .ensures .0) _ _ _ (c .before .before .before .before .before .before .before .before .before .before .before .before .before .before .before .before .give .ensures .1) (o .3) _ (w .3) in
-    let q = loop-into _ _ _ _ _ _ _ _ (o .0) (c .before .before .before .before .before .before .before .before .before .before .before .before .before .before .before .before .before .before .loop-test .taken) (split-into _ _ _ _ _ _ _ (o .1 (c .before .before .before .before .before .before .before .before .before .before .before .before .before .before .before .before .before .before .loop-test .taken)))
-    (takes-given _ _ _ _ _ (w .0) (given-levels _ _ _ (c .before .before .before .before .before .before .before .before .before .before .before .before .before .before .before .before .give .ensures .0) _ _ [] (c .before .before .before .before .before .before .before .before .before .before .before .before .before .before .before .before .before .before .before .loop .inv .2)) (given-entries _ _ _ (c .before .before .before .before .before .before .before .before .before .before .before .before .before .before .before .before .give .ensures .0) _ _ _ (c .before .before .before .before .before .before .before .before .before .before .before .before .before .before .before .before .give .ensures .1) (c .before .before .before .before .before .before .before .before .before .before .before .before .before .before .before .before .before .before .before .loop .inv .3) [])) (w .1) (c .before .before .if5 .left) in
-    let x = splits-to _ _ _ _ _ _ _ k (c .next-split2 .ensures) in (
-      loop-to _ _ _ _ _ _ _ _ _ q (x .low) (x .high) (x .none),
-      x .fits,
-      w .2 ∙ o .2,
-      k,
-      omega (arith, o .4, c .before .before .before .before .before .before .before .before .before .before .before .before .before .before .before .before .give .kept .1 .1 .0, c .before .before .before .before .before .before .before .before .before .before .walk2 .kept .1 .1 .1 .1 .1 .1 .1 .1 .1 .0),
-      omega (arith, o .5, c .before .before .before .before .before .before .before .before .before .before .walk2 .kept .1 .1 .1 .1 .1 .1 .1 .1 .1 .1 .1 .1 .1 .1 .0),
-    )
+  loop-less : walk-lts.Need-loop-less (R t) (walk-at t) walk.Post Inv-loop μ-loop
+  loop-less c = omega (arith, c .next-split2 .ensures .low, loop-of (c .before .before .before .before .before .before .before .before .before .before) .loop-test .taken)
 
-walk-same-length-7 : (t : ℕ) → walk-lts.Need-same-length-7 (R t) (walk-at t) walk.Post walk-Inv-loop walk-μ-loop
-walk-same-length-7 t c = search needs
+  loop-again : walk-lts.Need-loop-again (R t) (walk-at t) walk.Post Inv-loop μ-loop
+  loop-again c =
+      let at-walk = c .before .before .before .before .before .before .before .before .before .before in
+      let at-give = at-walk .before .before .before .before .before .before in
+      let in-loop = at-give .before .before in
+      let at-loop = in-loop .before in
+      let at-turn = turn-of (match-of at-loop) in
+      splitting-next (begin (record-of at-turn) .pre .1 .0) (at-turn .take-turn .ensures) (at-loop .before .before .before .enum-told4 .given .1) (at-loop .loop .inv)
+      (in-loop .loop-test .taken) _ (at-give .give .ensures .0) (at-give .give .ensures .1) (at-walk .walk2 .ensures) (c .before .before .if3 .left)
+      (omega (arith, at-give .give .kept .1 .1 .0, at-walk .walk2 .kept .1 .1 .1 .1 .1 .1 .1 .1 .0)) (at-walk .walk2 .kept .1 .1 .1 .1 .1 .1 .1 .1 .1 .1 .0) (c .next-split2 .ensures)
 
-walk-same-length-8 : (t : ℕ) → walk-lts.Need-same-length-8 (R t) (walk-at t) walk.Post walk-Inv-loop walk-μ-loop
-walk-same-length-8 t c = search needs
+  same-length-13 : walk-lts.Need-same-length-13 (R t) (walk-at t) walk.Post Inv-loop μ-loop
+  same-length-13 c = omega (arith, ap length (c .before .loop .inv .levels-same), turn-of (match-of (c .before)) .take-turn .kept .1 .1 .1 .1 .1 .1 .1 .0)
 
-walk-returns-6 : (t : ℕ) → walk-lts.Need-returns-6 (R t) (walk-at t) walk.Post walk-Inv-loop walk-μ-loop
-walk-returns-6 t c =
-    let e = c .enum-told .given .1 in
-    (takes-none _ _ _ _ (turn-stop (c .before .before .before .before .before .before .before .before .before .before .before .before .before .before .before .before .before .before .before .before .before .before .before .before .before .before .before .before .pre .1 .0) (there _ _ (c .before .before .before .before .before .before .before .before .before .before .before .before .before .before .before .before .before .before .if2 .left)) (c .before .before .before .before .before .before .before .before .before .before .before .before .before .before .before .before .before .get-item .ensures) (c .before .before .before .before .before .before .before .before .before .before .before .before .before .before .before .before .word .ensures) (c .before .before .before .before .before .before .before .before .before .before .before .before .before .before .before .ends-at .ensures _ _) _ _ (c .before .before .before .before .before .before .before .step .ensures .0) e), filled-same _ _ _ _ _ refl (c .before .before .before .before .before .before .before .before .before .before .before .before .before .before .before .before .before .before .before .before .before .before .before .before .before .before .before .before .pre .1 .1), c .before .before .before .before .before .before .before .step .ensures .1 .same (stop-here _ e), c .before .before .before .before .before .before .before .step .ensures .2)
+  same-length-14 : walk-lts.Need-same-length-14 (R t) (walk-at t) walk.Post Inv-loop μ-loop
+  same-length-14 c = omega (arith, c .before .loop .inv .binds-length, turn-of (match-of (c .before)) .take-turn .kept .1 .1 .1 .1 .1 .1 .1 .1 .0)
 
-walk-same-length-9 : (t : ℕ) → walk-lts.Need-same-length-9 (R t) (walk-at t) walk.Post walk-Inv-loop walk-μ-loop
-walk-same-length-9 t c = search needs
-
-walk-same-length-10 : (t : ℕ) → walk-lts.Need-same-length-10 (R t) (walk-at t) walk.Post walk-Inv-loop walk-μ-loop
-walk-same-length-10 t c = search needs
-
-walk-returns-7 : (t : ℕ) → walk-lts.Need-returns-7 (R t) (walk-at t) walk.Post walk-Inv-loop walk-μ-loop
-walk-returns-7 t c =
-    let e = c .enum-told2 .given .1 in
-    (takes-call _ _ _ _ _ (c .before .before .before .before .before .before .before .before .before .before .before .before .before .before .before .before .before .before .before .if1 .left) (turn-call (c .before .before .before .before .before .before .before .before .before .before .before .before .before .before .before .before .before .before .before .before .before .before .before .before .before .before .before .before .pre .1 .0) (there _ _ (c .before .before .before .before .before .before .before .before .before .before .before .before .before .before .before .before .before .before .if2 .left)) (c .before .before .before .before .before .before .before .before .before .before .before .before .before .before .before .before .before .get-item .ensures) (c .before .before .before .before .before .before .before .before .before .before .before .before .before .before .before .before .word .ensures) (c .before .before .before .before .before .before .before .before .before .before .before .before .before .before .before .ends-at .ensures _ _) _ _ (c .before .before .before .before .before .before .before .step .ensures .0) e), filled-same _ _ _ _ _ refl (c .before .before .before .before .before .before .before .before .before .before .before .before .before .before .before .before .before .before .before .before .before .before .before .before .before .before .before .before .pre .1 .1), c .before .before .before .before .before .before .before .step .ensures .1 .same (call-here _ e), c .before .before .before .before .before .before .before .step .ensures .2)
-
-walk-same-length-11 : (t : ℕ) → walk-lts.Need-same-length-11 (R t) (walk-at t) walk.Post walk-Inv-loop walk-μ-loop
-walk-same-length-11 t c = search needs
-
-walk-same-length-12 : (t : ℕ) → walk-lts.Need-same-length-12 (R t) (walk-at t) walk.Post walk-Inv-loop walk-μ-loop
-walk-same-length-12 t c = search needs
-
-walk-same-length-13 : (t : ℕ) → walk-lts.Need-same-length-13 (R t) (walk-at t) walk.Post walk-Inv-loop walk-μ-loop
-walk-same-length-13 t c = search needs
-
-walk-returns-8 : (t : ℕ) → walk-lts.Need-returns-8 (R t) (walk-at t) walk.Post walk-Inv-loop walk-μ-loop
-walk-returns-8 t c =
-    let e = c .before .before .before .before .before .before .before .before .before .before .before .before .before .before .enum-told3 .given .1 in
-    let w = c .before .before .before .before .before .before .before .before .before .before .walk .ensures in (
-      takes-same _ _ _ _ _ (turn-next (c .before .before .before .before .before .before .before .before .before .before .before .before .before .before .before .before .before .before .before .before .before .before .before .before .before .before .before .before .before .before .before .before .before .before .before .before .before .before .before .before .before .before .pre .1 .0) (there _ _ (c .before .before .before .before .before .before .before .before .before .before .before .before .before .before .before .before .before .before .before .before .before .before .before .before .before .before .before .before .before .before .before .before .if2 .left)) (c .before .before .before .before .before .before .before .before .before .before .before .before .before .before .before .before .before .before .before .before .before .before .before .before .before .before .before .before .before .before .before .get-item .ensures) (c .before .before .before .before .before .before .before .before .before .before .before .before .before .before .before .before .before .before .before .before .before .before .before .before .before .before .before .before .before .before .word .ensures) (c .before .before .before .before .before .before .before .before .before .before .before .before .before .before .before .before .before .before .before .before .before .before .before .before .before .before .before .before .before .ends-at .ensures _ _) _ _ (c .before .before .before .before .before .before .before .before .before .before .before .before .before .before .before .before .before .before .before .before .before .step .ensures .0) e) (w .0),
-      w .1,
-      put-same _ _ _ _ _ (c .before .before .before .before .before .before .before .before .before .before .before .before .before .before .before .before .before .before .before .before .before .step .ensures .1 .back) (w .2) (c .before .before .put-back .ensures),
-      entries-fewer _ _ _ _ (next-grows (c .before .before .before .before .before .before .before .before .before .before .before .before .before .before .before .before .before .before .before .before .before .before .before .before .before .before .before .before .before .before .before .before .before .before .before .before .before .before .before .before .before .before .pre .1 .0) (there _ _ (c .before .before .before .before .before .before .before .before .before .before .before .before .before .before .before .before .before .before .before .before .before .before .before .before .before .before .before .before .before .before .before .before .if2 .left)) (c .before .before .before .before .before .before .before .before .before .before .before .before .before .before .before .before .before .before .before .before .before .before .before .before .before .before .before .before .before .before .before .get-item .ensures) (c .before .before .before .before .before .before .before .before .before .before .before .before .before .before .before .before .before .before .before .before .before .before .before .before .before .before .before .before .before .before .word .ensures) (c .before .before .before .before .before .before .before .before .before .before .before .before .before .before .before .before .before .before .before .before .before .before .before .before .before .before .before .before .before .ends-at .ensures _ _) _ _ (c .before .before .before .before .before .before .before .before .before .before .before .before .before .before .before .before .before .before .before .before .before .step .ensures .0) e) (w .3) ∙ c .before .before .before .before .before .before .before .before .before .before .before .before .before .before .before .before .before .before .before .before .before .step .ensures .2,
-    )
-
-walk-same-length-14 : (t : ℕ) → walk-lts.Need-same-length-14 (R t) (walk-at t) walk.Post walk-Inv-loop walk-μ-loop
-walk-same-length-14 t c = omega (arith, ap length (c .before .loop .inv .2), c .before .before .before .before .before .before .before .before .before .before .before .step .kept .1 .1 .1 .1 .1 .1 .1 .0)
-
-walk-same-length-15 : (t : ℕ) → walk-lts.Need-same-length-15 (R t) (walk-at t) walk.Post walk-Inv-loop walk-μ-loop
-walk-same-length-15 t c = search needs
-
-walk-same-length-16 : (t : ℕ) → walk-lts.Need-same-length-16 (R t) (walk-at t) walk.Post walk-Inv-loop walk-μ-loop
-walk-same-length-16 t c = search needs
-
-walk-returns-9 : (t : ℕ) → walk-lts.Need-returns-9 (R t) (walk-at t) walk.Post walk-Inv-loop walk-μ-loop
-walk-returns-9 t c =
-    let e = c .before .before .before .before .enum-told4 .given .1 in
-    let o = c .before .loop .inv in (
-      takes-same _ _ _ _ _ (turn-split (c .before .before .before .before .before .before .before .before .before .before .before .before .before .before .before .before .before .before .before .before .before .before .before .before .before .before .before .before .before .before .before .before .pre .1 .0) (there _ _ (c .before .before .before .before .before .before .before .before .before .before .before .before .before .before .before .before .before .before .before .before .before .before .if2 .left)) (c .before .before .before .before .before .before .before .before .before .before .before .before .before .before .before .before .before .before .before .before .before .get-item .ensures) (c .before .before .before .before .before .before .before .before .before .before .before .before .before .before .before .before .before .before .before .before .word .ensures) (c .before .before .before .before .before .before .before .before .before .before .before .before .before .before .before .before .before .before .before .ends-at .ensures _ _) _ _ (c .before .before .before .before .before .before .before .before .before .before .before .step .ensures .0) e) (loop-done _ _ _ _ _ _ _ _ (o .0) (search needs)),
-      o .0 .filled,
-      o .2 ∙ c .before .before .before .before .before .before .before .before .before .before .before .step .ensures .1 .same (split-here _ e),
-      split-same (c .before .before .before .before .before .before .before .before .before .before .before .before .before .before .before .before .before .before .before .before .before .before .before .before .before .before .before .before .before .before .before .before .pre .1 .0) (there _ _ (c .before .before .before .before .before .before .before .before .before .before .before .before .before .before .before .before .before .before .before .before .before .before .if2 .left)) (c .before .before .before .before .before .before .before .before .before .before .before .before .before .before .before .before .before .before .before .before .before .get-item .ensures) (c .before .before .before .before .before .before .before .before .before .before .before .before .before .before .before .before .before .before .before .before .word .ensures) (c .before .before .before .before .before .before .before .before .before .before .before .before .before .before .before .before .before .before .before .ends-at .ensures _ _) _ _ (c .before .before .before .before .before .before .before .before .before .before .before .step .ensures .0) e _ (o .3),
-    )
+  returns-7 : walk-lts.Need-returns-7 (R t) (walk-at t) walk.Post Inv-loop μ-loop
+  returns-7 c =
+      let at-loop = c .before in
+      let at-turn = turn-of (match-of at-loop) in
+      splitting-done (begin (record-of at-turn) .pre .1 .0) (at-turn .take-turn .ensures) (at-loop .before .before .before .enum-told4 .given .1) (at-loop .loop .inv) (c .loop-test .left)
 
 pub +walk-spec : {M : Type 1} → statement M
 +walk-spec = close μ-walk λ t. walk-lts.spec (R t)
     (walk-at t)
     walk.Post
-    walk-Inv-loop
-    walk-μ-loop
-    (walk-returns t)
-    (walk-returns-2 t)
-    (walk-emit-requires t)
-    (walk-same-length t)
-    (walk-same-length-2 t)
-    (walk-returns-3 t)
-    (walk-get-item-requires t)
-    (walk-word-requires t)
-    (walk-add-ends-at t)
-    (walk-ends-at-requires t)
-    (walk-ends-apart-requires t)
-    (walk-same-length-3 t)
-    (walk-returns-4 t)
-    (walk-mul-kept-start t)
-    (walk-mul-kept-start-2 t)
-    (walk-slice-read-kept-start t)
-    (walk-mul-kept-len t)
-    (walk-add-kept-len t)
-    (walk-mul-kept-len-2 t)
-    (walk-slice-read-kept-len t)
-    (walk-step-requires t)
-    (walk-enum-told t)
-    (walk-enum-told-2 t)
-    (walk-enum-told-3 t)
-    (walk-add-walk t)
-    (walk-walk-requires t)
-    (walk-put-back-requires t)
-    (walk-enum-told-4 t)
-    (walk-add-next-split t)
-    (walk-next-split-requires t)
-    (walk-loop-holds t)
-    (walk-give-requires t)
-    (walk-add-walk-2 t)
-    (walk-walk-requires-2 t)
-    (walk-same-length-4 t)
-    (walk-same-length-5 t)
-    (walk-same-length-6 t)
-    (walk-returns-5 t)
-    (walk-add-next-split-2 t)
-    (walk-add-next-split-3 t)
-    (walk-next-split-requires-2 t)
-    (walk-loop-less t)
-    (walk-loop-again t)
-    (walk-same-length-7 t)
-    (walk-same-length-8 t)
-    (walk-returns-6 t)
-    (walk-same-length-9 t)
-    (walk-same-length-10 t)
-    (walk-returns-7 t)
-    (walk-same-length-11 t)
-    (walk-same-length-12 t)
-    (walk-same-length-13 t)
-    (walk-returns-8 t)
-    (walk-same-length-14 t)
-    (walk-same-length-15 t)
-    (walk-same-length-16 t)
-    (walk-returns-9 t)
+    Inv-loop
+    μ-loop
+    (returns t)
+    (emit-requires t)
+    (λ c. search needs)
+    (λ c. search needs)
+    (returns-2 t)
+    (take-turn-requires t)
+    (λ c. search needs)
+    (λ c. search needs)
+    (λ c. search needs)
+    (add-walk t)
+    (walk-requires t)
+    (put-back-requires t)
+    (λ c. search needs)
+    (add-next-split t)
+    (next-split-requires t)
+    (loop-holds t)
+    (give-requires t)
+    (add-walk-2 t)
+    (walk-requires-2 t)
+    (same-length-3 t)
+    (same-length-4 t)
+    (λ c. search needs)
+    (returns-3 t)
+    (add-next-split-2 t)
+    (add-next-split-3 t)
+    (next-split-requires-2 t)
+    (loop-less t)
+    (loop-again t)
+    (λ c. search needs)
+    (λ c. search needs)
+    (returns-4 t)
+    (λ c. search needs)
+    (λ c. search needs)
+    (returns-5 t)
+    (λ c. search needs)
+    (λ c. search needs)
+    (λ c. search needs)
+    (returns-6 t)
+    (same-length-13 t)
+    (same-length-14 t)
+    (λ c. search needs)
+    (returns-7 t)

@@ -4,7 +4,7 @@ use mathlib.Core.Path.{_≡_, ap}
 use native.Mathlib.Omega.{arith}
 use Rattle.view_spec.specs.Node.{Node, nodeAt}
 use Rattle.words.specs.Records.{asNode}
-use Rattle.nodes.specs.Store.{nodesIn}
+use Rattle.nodes.specs.NodeStore.{nodesIn}
 use Rattle.nodes.specs.RuleLaws.{below-at, cons-refused, cons-last}
 use Rattle.nodes.proofs.cons_ok.Statement.{statement}
 use Rattle.nodes.proofs.cons_ok.Tie as tie
@@ -21,9 +21,6 @@ returns-3 c = cons-refused _ _ _ _ (λ f. omega arith)
 returns-4 : tie.Need-returns-4
 returns-4 c = cons-refused _ _ _ _ (λ f. omega arith)
 
-get-node-requires : tie.Need-get-node-requires
-get-node-requires c κs = search needs
-
 -- the tail, in the store
 tail : (g : tie.After-get-node)
     → let s = g .before .before .before .before .before .before .before .before .before .before .before .args in
@@ -35,9 +32,6 @@ returns-5 c = cons-refused _ _ _ _ (λ f. omega (arith, ap (λ (n : Node). n .ki
 
 returns-6 : tie.Need-returns-6
 returns-6 c = cons-refused _ _ _ _ (λ f. c .if6 .taken (f .height1))
-
-reaches-requires : tie.Need-reaches-requires
-reaches-requires c κs = search needs
 
 returns-7 : tie.Need-returns-7
 returns-7 c =
@@ -52,8 +46,8 @@ cons-ok-spec =
     returns-2
     returns-3
     returns-4
-    get-node-requires
+    (λ c κs. search needs)
     returns-5
     returns-6
-    reaches-requires
+    (λ c κs. search needs)
     returns-7)

@@ -7,11 +7,8 @@ use Rattle.nodes.proofs.field_ok.Tie as tie
 returns : tie.Need-returns
 returns c = field-out _ _ _ _ (search needs)
 
-get-node-requires : tie.Need-get-node-requires
-get-node-requires c κs = search needs
-
 returns-2 : tie.Need-returns-2
 returns-2 c = field-in _ _ _ _ (c .before .before .if1 .left) (c .before .get-node .ensures)
 
 pub field-ok-spec : {M : Type 1} → statement M
-field-ok-spec = tie.close (tie.spec returns get-node-requires returns-2)
+field-ok-spec = tie.close (tie.spec returns (λ c κs. search needs) returns-2)

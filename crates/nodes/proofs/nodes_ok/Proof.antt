@@ -4,7 +4,7 @@ use borrow.Author.Tests.{not-true, not-false}
 use mathlib.Core.Path.{_≡_, ap, sym, _∙_}
 use Prim.Native.Nat.{_≤_, _-_}
 use Rattle.view_spec.specs.Node.{nodesRule}
-use Rattle.nodes.specs.Store.{nodesIn}
+use Rattle.nodes.specs.NodeStore.{nodesIn}
 use Rattle.nodes.specs.RuleLaws.{restRule, nodes-empty, rest-all, rest-more, rest-none}
 use Rattle.nodes.proofs.nodes_ok.Statement.{statement}
 use Rattle.nodes.proofs.nodes_ok.Tie as tie
@@ -21,19 +21,10 @@ returns c = nodes-empty _ _ _ (search needs)
 loop-holds : tie.Need-loop-holds Inv-loop μ-loop
 loop-holds c = (search needs, rest-all _ _ _ (c .if1 .left))
 
-node-ok-requires : tie.Need-node-ok-requires Inv-loop μ-loop
-node-ok-requires c κs = search needs
-
 returns-2 : tie.Need-returns-2 Inv-loop μ-loop
 returns-2 c =
     let b = sym (c .before .node-ok .ensures) ∙ not-true _ (c .if2 .taken) in
     sym (c .before .before .before .loop .inv .1 ∙ rest-more _ _ _ _ (search needs) b)
-
-add-i : tie.Need-add-i Inv-loop μ-loop
-add-i c = search needs
-
-loop-less : tie.Need-loop-less Inv-loop μ-loop
-loop-less c = search needs
 
 loop-again : tie.Need-loop-again Inv-loop μ-loop
 loop-again c =
@@ -53,9 +44,9 @@ nodes-ok-spec =
     μ-loop
     returns
     loop-holds
-    node-ok-requires
+    (λ c κs. search needs)
     returns-2
-    add-i
-    loop-less
+    (λ c. search needs)
+    (λ c. search needs)
     loop-again
     returns-3)

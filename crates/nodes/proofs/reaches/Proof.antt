@@ -9,17 +9,11 @@ use Rattle.nodes.proofs.reaches.Tie as tie
 returns : tie.Need-returns
 returns c = let a = c .before .args in let e : min 65536 (a .b + a .after) ≡ 65536 = omega arith in rw e refl
 
-sub-if2 : tie.Need-sub-if2
-sub-if2 c = search needs
-
 returns-2 : tie.Need-returns-2
 returns-2 c = let a = c .before .before .args in let e : min 65536 (a .b + a .after) ≡ 65536 = omega arith in rw e refl
-
-add-result : tie.Need-add-result
-add-result c = search needs
 
 returns-3 : tie.Need-returns-3
 returns-3 c = let a = c .before .before .args in let e : min 65536 (a .b + a .after) ≡ a .b + a .after = omega arith in rw e refl
 
 pub reaches-spec : {M : Type 1} → statement M
-reaches-spec = tie.close (tie.spec returns sub-if2 returns-2 add-result returns-3)
+reaches-spec = tie.close (tie.spec returns (λ c. search needs) returns-2 (λ c. search needs) returns-3)

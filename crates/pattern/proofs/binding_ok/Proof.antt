@@ -6,17 +6,11 @@ use Rattle.pattern.specs.BindingLaws.{binding-rule}
 use Rattle.pattern.proofs.binding_ok.Statement.{statement}
 use Rattle.pattern.proofs.binding_ok.Tie as tie
 
-is-variable-requires : tie.Need-is-variable-requires
-is-variable-requires c κs = search needs
-
 returns : tie.Need-returns
 returns c = sym (binding-rule _ _ (sym (c .before .is-variable .ensures) ∙ not-true _ (c .if1 .taken)))
-
-text-ok-requires : tie.Need-text-ok-requires
-text-ok-requires c κs = search needs
 
 returns-2 : tie.Need-returns-2
 returns-2 c = c .text-ok .ensures ∙ sym (binding-rule _ _ (sym (c .before .before .is-variable .ensures) ∙ not-false _ (c .before .if1 .left)))
 
 pub binding-ok-spec : {M : Type 1} → statement M
-binding-ok-spec = tie.close (tie.spec is-variable-requires returns text-ok-requires returns-2)
+binding-ok-spec = tie.close (tie.spec (λ c κs. search needs) returns (λ c κs. search needs) returns-2)

@@ -13,7 +13,8 @@ use Rattle.pattern.proofs.bindings_inside.Statement.{statement}
 use Rattle.pattern.proofs.bindings_inside.Tie as tie
 
 abbrev Inv-loop : tie.InvT-loop
-Inv-loop bindings terms n i₀ i = (i ≤ n) × (runsRule terms (map boundRun (drop i (records bindingLayout bindings))) ≡ runsRule terms (map boundRun (records bindingLayout bindings)))
+Inv-loop bindings terms n i₀ i =
+    (i ≤ n) × (runsRule terms (map boundRun (drop i (records bindingLayout bindings))) ≡ runsRule terms (map boundRun (records bindingLayout bindings)))
 
 abbrev μ-loop : tie.MeasureT-loop
 μ-loop bindings terms n i₀ i = n - i
@@ -21,23 +22,30 @@ abbrev μ-loop : tie.MeasureT-loop
 loop-holds : tie.Need-loop-holds Inv-loop μ-loop
 loop-holds c = (search needs, refl)
 
-get-binding-requires : tie.Need-get-binding-requires Inv-loop μ-loop
-get-binding-requires c κs = search needs
-
 returns : tie.Need-returns Inv-loop μ-loop
-returns c = inside-not _ _ _ (c .before .before .before .loop-test .taken) (c .before .before .get-binding .ensures) (c .before .before .before .before .loop .inv .1) (omega (arith, c .if1 .taken))
+returns c =
+    let at-loop-test = c .before .before .before in
+    let at-loop = at-loop-test .before in
+    inside-not _ _ _ (at-loop-test .loop-test .taken) (c .before .before .get-binding .ensures) (at-loop .loop .inv .1) (omega (arith, c .if1 .taken))
 
 returns-2 : tie.Need-returns-2 Inv-loop μ-loop
-returns-2 c = inside-not _ _ _ (c .before .before .before .before .before .before .loop-test .taken) (c .before .before .before .before .before .get-binding .ensures) (c .before .before .before .before .before .before .before .loop .inv .1) (omega (arith, c .before .before .before .if1 .left, c .if2 .taken))
-
-add-i : tie.Need-add-i Inv-loop μ-loop
-add-i c = search needs
-
-loop-less : tie.Need-loop-less Inv-loop μ-loop
-loop-less c = search needs
+returns-2 c =
+    let at-if1 = c .before .before .before in
+    let at-get-binding = at-if1 .before .before in
+    let at-loop-test = at-get-binding .before in
+    let at-loop = at-loop-test .before in
+    inside-not _ _ _ (at-loop-test .loop-test .taken) (at-get-binding .get-binding .ensures) (at-loop .loop .inv .1) (omega (arith, at-if1 .if1 .left, c .if2 .taken))
 
 loop-again : tie.Need-loop-again Inv-loop μ-loop
-loop-again c = (search needs, inside-next _ _ _ (c .before .before .before .before .before .before .loop-test .taken) (c .before .before .before .before .before .get-binding .ensures) (c .before .before .before .before .before .before .before .loop .inv .1) (omega (arith, c .before .before .before .if1 .left, c .if2 .left)))
+loop-again c =
+    let at-if1 = c .before .before .before in
+    let at-get-binding = at-if1 .before .before in
+    let at-loop-test = at-get-binding .before in
+    let at-loop = at-loop-test .before in (
+      search needs,
+      inside-next _ _ _ (at-loop-test .loop-test .taken) (at-get-binding .get-binding .ensures) (at-loop .loop .inv .1)
+          (omega (arith, at-if1 .if1 .left, c .if2 .left)),
+    )
 
 returns-3 : tie.Need-returns-3 Inv-loop μ-loop
 returns-3 c = inside-all _ _ (c .before .loop .i) (c .loop-test .left) (c .before .loop .inv .0) (c .before .loop .inv .1)
@@ -49,10 +57,10 @@ bindings-inside-spec =
     Inv-loop
     μ-loop
     loop-holds
-    get-binding-requires
+    (λ c κs. search needs)
     returns
     returns-2
-    add-i
-    loop-less
+    (λ c. search needs)
+    (λ c. search needs)
     loop-again
     returns-3)

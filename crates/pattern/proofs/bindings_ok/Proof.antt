@@ -16,29 +16,34 @@ abbrev μ-loop : tie.MeasureT-loop
 loop-holds : tie.Need-loop-holds Inv-loop μ-loop
 loop-holds c = naming-start _ _
 
-get-binding-requires : tie.Need-get-binding-requires Inv-loop μ-loop
-get-binding-requires c κs = search needs
-
-binding-ok-requires : tie.Need-binding-ok-requires Inv-loop μ-loop
-binding-ok-requires c κs = search needs
-
 returns : tie.Need-returns Inv-loop μ-loop
-returns c = bad-binding _ _ _ (c .before .before .before .before .loop .inv) (c .before .before .before .loop-test .taken) (c .before .before .get-binding .ensures) (sym (c .before .binding-ok .ensures) ∙ not-true _ (c .if1 .taken))
+returns c =
+    let at-loop-test = c .before .before .before in
+    let at-loop = at-loop-test .before in
+    bad-binding _ _ _ (at-loop .loop .inv) (at-loop-test .loop-test .taken) (c .before .before .get-binding .ensures)
+    (sym (c .before .binding-ok .ensures) ∙ not-true _ (c .if1 .taken))
 
 find-binding-requires : tie.Need-find-binding-requires Inv-loop μ-loop
-find-binding-requires c κs = (search needs, named-text _ _ (sym (c .before .binding-ok .ensures) ∙ not-false _ (c .if1 .left)), c .before .before .before .before .loop .inv .texts)
+find-binding-requires c κs =
+    (search needs, named-text _ _ (sym (c .before .binding-ok .ensures) ∙ not-false _ (c .if1 .left)), c .before .before .before .before .loop .inv .texts)
 
 returns-2 : tie.Need-returns-2 Inv-loop μ-loop
-returns-2 c = repeated _ _ _ (c .before .before .before .before .before .before .loop .inv) (c .before .before .before .before .before .loop-test .taken) (c .before .before .before .before .get-binding .ensures) (sym (c .before .before .before .binding-ok .ensures) ∙ not-false _ (c .before .before .if1 .left)) (c .before .find-binding .ensures) (c .if2 .taken)
-
-add-i : tie.Need-add-i Inv-loop μ-loop
-add-i c = search needs
-
-loop-less : tie.Need-loop-less Inv-loop μ-loop
-loop-less c = search needs
+returns-2 c =
+    let at-binding-ok = c .before .before .before in
+    let at-get-binding = at-binding-ok .before in
+    let at-loop-test = at-get-binding .before in
+    let at-loop = at-loop-test .before in
+    repeated _ _ _ (at-loop .loop .inv) (at-loop-test .loop-test .taken) (at-get-binding .get-binding .ensures)
+    (sym (at-binding-ok .binding-ok .ensures) ∙ not-false _ (c .before .before .if1 .left)) (c .before .find-binding .ensures) (c .if2 .taken)
 
 loop-again : tie.Need-loop-again Inv-loop μ-loop
-loop-again c = named _ _ _ (c .before .before .before .before .before .before .loop .inv) (c .before .before .before .before .before .loop-test .taken) (c .before .before .before .before .get-binding .ensures) (sym (c .before .before .before .binding-ok .ensures) ∙ not-false _ (c .before .before .if1 .left)) (c .before .find-binding .ensures) (c .if2 .left)
+loop-again c =
+    let at-binding-ok = c .before .before .before in
+    let at-get-binding = at-binding-ok .before in
+    let at-loop-test = at-get-binding .before in
+    let at-loop = at-loop-test .before in
+    named _ _ _ (at-loop .loop .inv) (at-loop-test .loop-test .taken) (at-get-binding .get-binding .ensures)
+    (sym (at-binding-ok .binding-ok .ensures) ∙ not-false _ (c .before .before .if1 .left)) (c .before .find-binding .ensures) (c .if2 .left)
 
 returns-3 : tie.Need-returns-3 Inv-loop μ-loop
 returns-3 c = all-named _ _ (c .before .loop .i) (c .before .loop .inv) (c .loop-test .left)
@@ -50,12 +55,12 @@ bindings-ok-spec =
     Inv-loop
     μ-loop
     loop-holds
-    get-binding-requires
-    binding-ok-requires
+    (λ c κs. search needs)
+    (λ c κs. search needs)
     returns
     find-binding-requires
     returns-2
-    add-i
-    loop-less
+    (λ c. search needs)
+    (λ c. search needs)
     loop-again
     returns-3)

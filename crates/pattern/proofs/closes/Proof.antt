@@ -7,11 +7,8 @@ use Rattle.pattern.proofs.closes.Tie as tie
 returns : tie.Need-returns
 returns c = numbers-apart _ _ _ _ (c .if1 .taken)
 
-get-item-requires : tie.Need-get-item-requires
-get-item-requires c κs = search needs
-
 returns-2 : tie.Need-returns-2
 returns-2 c = numbers-meet _ _ _ _ (c .before .before .if1 .left) (c .before .get-item .ensures)
 
 pub closes-spec : {M : Type 1} → statement M
-closes-spec = tie.close (tie.spec returns get-item-requires returns-2)
+closes-spec = tie.close (tie.spec returns (λ c κs. search needs) returns-2)

@@ -6,9 +6,6 @@ use Rattle.pattern.specs.PatternLaws.{item-symbol, item-bracket, item-va
 use Rattle.pattern.proofs.item_ok.Statement.{statement}
 use Rattle.pattern.proofs.item_ok.Tie as tie
 
-symbol-ok-requires : tie.Need-symbol-ok-requires
-symbol-ok-requires c κs = search needs
-
 returns : tie.Need-returns
 returns c = c .symbol-ok .ensures ∙ item-symbol _ _ _ (c .before .if1 .taken)
 
@@ -16,19 +13,21 @@ returns-2 : tie.Need-returns-2
 returns-2 c = sym (item-bracket _ _ _ (c .before .before .before .before .if1 .left) (c .before .before .if2 .taken) (ne-eqb _ _ (c .if3 .taken)))
 
 returns-3 : tie.Need-returns-3
-returns-3 c = sym (item-bracket _ _ _ (c .before .before .before .before .before .if1 .left) (c .before .before .before .if2 .taken) (eq-eqb _ _ (c .before .if3 .left)))
-
-text-ok-requires : tie.Need-text-ok-requires
-text-ok-requires c κs = search needs
+returns-3 c =
+    let at-if2 = c .before .before .before in
+    let at-if1 = at-if2 .before .before in
+    sym (item-bracket _ _ _ (at-if1 .if1 .left) (at-if2 .if2 .taken) (eq-eqb _ _ (c .before .if3 .left)))
 
 returns-4 : tie.Need-returns-4
-returns-4 c = sym (item-variable _ _ _ (c .before .before .before .before .if2 .left) (c .before .before .if4 .taken) (sym (c .before .text-ok .ensures) ∙ not-true _ (c .if5 .taken)))
+returns-4 c =
+    sym (item-variable _ _ _ (c .before .before .before .before .if2 .left) (c .before .before .if4 .taken)
+    (sym (c .before .text-ok .ensures) ∙ not-true _ (c .if5 .taken)))
 
 returns-5 : tie.Need-returns-5
-returns-5 c = sym (item-variable _ _ _ (c .before .before .before .before .before .if2 .left) (c .before .before .before .if4 .taken) (sym (c .before .before .text-ok .ensures) ∙ not-false _ (c .before .if5 .left)))
-
-call-ok-requires : tie.Need-call-ok-requires
-call-ok-requires c κs = search needs
+returns-5 c =
+    let at-if4 = c .before .before .before in
+    let at-if2 = at-if4 .before .before in
+    sym (item-variable _ _ _ (at-if2 .if2 .left) (at-if4 .if4 .taken) (sym (c .before .before .text-ok .ensures) ∙ not-false _ (c .before .if5 .left)))
 
 returns-6 : tie.Need-returns-6
 returns-6 c = c .call-ok .ensures _
@@ -37,12 +36,12 @@ pub item-ok-spec : {M : Type 1} → statement M
 item-ok-spec =
     tie.close
     (tie.spec
-    symbol-ok-requires
+    (λ c κs. search needs)
     returns
     returns-2
     returns-3
-    text-ok-requires
+    (λ c κs. search needs)
     returns-4
     returns-5
-    call-ok-requires
+    (λ c κs. search needs)
     returns-6)

@@ -8,11 +8,8 @@ use Rattle.pattern.proofs.same_name.Tie as tie
 returns : tie.Need-returns
 returns c = kinds-apart _ _ _ _ _ _ _ (c .if1 .taken)
 
-same-identifiers-requires : tie.Need-same-identifiers-requires
-same-identifiers-requires c κs = search needs
-
 returns-2 : tie.Need-returns-2
 returns-2 c = c .same-identifiers .ensures ∙ same-kinds _ _ _ _ _ _ _ (c .before .if1 .left)
 
 pub same-name-spec : {M : Type 1} → statement M
-same-name-spec = tie.close (tie.spec returns same-identifiers-requires returns-2)
+same-name-spec = tie.close (tie.spec returns (λ c κs. search needs) returns-2)

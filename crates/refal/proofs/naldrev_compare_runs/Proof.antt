@@ -4,15 +4,9 @@ use Rattle.refal.specs.ExportLaws.{compared-left}
 use Rattle.refal.proofs.naldrev_compare_runs.Statement.{statement}
 use Rattle.refal.proofs.naldrev_compare_runs.Tie as tie
 
-compare-runs-requires : tie.Need-compare-runs-requires
-compare-runs-requires c κs = search needs
-
-tell-compared-requires : tie.Need-tell-compared-requires
-tell-compared-requires c κs = search needs
-
 returns : tie.Need-returns
-returns c = compared-left _ _ (c .before .before .compare-runs .ensures) (c .tell-compared .ensures)
+returns c = compared-left _ _ (c .before .before .compare-runs .ensures) (c .put-compared .ensures)
 
 pub naldrev-compare-runs-spec : {M : Type 1} → statement M
 naldrev-compare-runs-spec =
-    tie.close (tie.spec compare-runs-requires tell-compared-requires returns)
+    tie.close (tie.spec (λ c κs. search needs) (λ c κs. search needs) returns)

@@ -4,14 +4,8 @@ use Rattle.refal.specs.ExportLaws.{truth-left}
 use Rattle.refal.proofs.naldrev_equal.Statement.{statement}
 use Rattle.refal.proofs.naldrev_equal.Tie as tie
 
-equal-requires : tie.Need-equal-requires
-equal-requires c κs = search needs
-
-tell-truth-requires : tie.Need-tell-truth-requires
-tell-truth-requires c κs = search needs
-
 returns : tie.Need-returns
-returns c = truth-left _ _ (c .before .before .equal .ensures) (c .tell-truth .ensures)
+returns c = truth-left _ _ (c .before .before .equal .ensures) (c .put-truth .ensures)
 
 pub naldrev-equal-spec : {M : Type 1} → statement M
-naldrev-equal-spec = tie.close (tie.spec equal-requires tell-truth-requires returns)
+naldrev-equal-spec = tie.close (tie.spec (λ c κs. search needs) (λ c κs. search needs) returns)

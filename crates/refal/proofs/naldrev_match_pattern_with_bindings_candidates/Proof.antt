@@ -10,24 +10,15 @@ match-pattern-with-bindings-candidates-requires :
     tie.Need-match-pattern-with-bindings-candidates-requires
 match-pattern-with-bindings-candidates-requires c κs = search needs
 
-tell-list-requires : tie.Need-tell-list-requires
-tell-list-requires c κs = search needs
-
-same-length : tie.Need-same-length
-same-length c = search needs
-
-same-length-2 : tie.Need-same-length-2
-same-length-2 c = search needs
-
 returns : tie.Need-returns
-returns c = list-left _ _ _ (c .before .before .before .before .before .before .before .match-pattern-with-bindings-candidates .ensures) (c .tell-list .ensures)
+returns c = list-left _ _ _ (c .before .before .before .before .before .before .before .match-pattern-with-bindings-candidates .ensures) (c .put-list .ensures)
 
 pub naldrev-match-pattern-with-bindings-candidates-spec : {M : Type 1} → statement M
 naldrev-match-pattern-with-bindings-candidates-spec =
     tie.close
     (tie.spec
     match-pattern-with-bindings-candidates-requires
-    tell-list-requires
-    same-length
-    same-length-2
+    (λ c κs. search needs)
+    (λ c. search needs)
+    (λ c. search needs)
     returns)

@@ -4,14 +4,8 @@ use Rattle.refal.specs.ExportLaws.{truth-left}
 use Rattle.refal.proofs.naldrev_starts_with.Statement.{statement}
 use Rattle.refal.proofs.naldrev_starts_with.Tie as tie
 
-starts-with-requires : tie.Need-starts-with-requires
-starts-with-requires c κs = search needs
-
-tell-truth-requires : tie.Need-tell-truth-requires
-tell-truth-requires c κs = search needs
-
 returns : tie.Need-returns
-returns c = truth-left _ _ (c .before .before .starts-with .ensures) (c .tell-truth .ensures)
+returns c = truth-left _ _ (c .before .before .starts-with .ensures) (c .put-truth .ensures)
 
 pub naldrev-starts-with-spec : {M : Type 1} → statement M
-naldrev-starts-with-spec = tie.close (tie.spec starts-with-requires tell-truth-requires returns)
+naldrev-starts-with-spec = tie.close (tie.spec (λ c κs. search needs) (λ c κs. search needs) returns)

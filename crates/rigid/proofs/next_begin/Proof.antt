@@ -19,22 +19,15 @@ abbrev μ-loop : tie.MeasureT-loop
 loop-holds : tie.Need-loop-holds Inv-loop μ-loop
 loop-holds c = (search needs, search needs, λ h a b. absurd (omega arith))
 
-may-begin-requires : tie.Need-may-begin-requires Inv-loop μ-loop
-may-begin-requires c κs = search needs
-
 returns : tie.Need-returns Inv-loop μ-loop
 returns c = c .before .before .before .loop .inv
 
-add-i : tie.Need-add-i Inv-loop μ-loop
-add-i c = search needs
-
-loop-less : tie.Need-loop-less Inv-loop μ-loop
-loop-less c = search needs
-
 loop-again : tie.Need-loop-again Inv-loop μ-loop
 loop-again c =
-    let o = c .before .before .before .loop .inv in
-    let a = c .before .before .before .before .before .args in
+    let at-loop = c .before .before .before in
+    let at-start = at-loop .before .before in
+    let o = at-loop .loop .inv in
+    let a = at-start .args in
     (omega arith, omega arith, from-more (λ h. Apart (asItem (a .t)) (recordAt termLayout (a .terms .now) h)) _ _ (o .2) (c .before .may-begin .ensures (c .if1 .left)))
 
 returns-2 : tie.Need-returns-2 Inv-loop μ-loop
@@ -47,9 +40,9 @@ next-begin-spec =
     Inv-loop
     μ-loop
     loop-holds
-    may-begin-requires
+    (λ c κs. search needs)
     returns
-    add-i
-    loop-less
+    (λ c. search needs)
+    (λ c. search needs)
     loop-again
     returns-2)

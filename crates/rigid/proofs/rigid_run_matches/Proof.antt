@@ -3,25 +3,29 @@ use Prim.Native.Nat.{_-_}
 use borrow.Author.Needs.{needs}
 use native.Mathlib.Omega.{arith}
 use Rattle.term_spec.specs.Words.{count}
+use Rattle.steps.specs.State.{leftOf}
 use Rattle.rigid.specs.FitLaws.{Left, taken-in, left-first, left-end, left-item, left-skipped, left-no, left-ends, left-takes}
 use Rattle.rigid.proofs.rigid_run_matches.Statement.{statement}
 use Rattle.rigid.proofs.rigid_run_matches.Tie as tie
 
 abbrev Inv-loop : tie.InvT-loop
 Inv-loop names terms used pattern numbers p s binds n i₀ d₀ start₀ len₀ i d start len =
-    Left names terms used pattern numbers p (s .bound) binds (record { start = s .start; len = s .len }) i d start len
+    Left names terms used pattern numbers p (s .bound) binds (leftOf s) i d start len
 
 abbrev μ-loop : tie.MeasureT-loop
 μ-loop names terms used pattern numbers p s binds n i₀ d₀ start₀ len₀ i d start len = n - i
 
 loop-holds : tie.Need-loop-holds Inv-loop μ-loop
-loop-holds c = left-first (c .before .before .before .before .before .pre .0 .2)
+loop-holds c = left-first (c .before .before .before .before .before .pre .0 .0 .inside)
 
 get-item-requires : tie.Need-get-item-requires Inv-loop μ-loop
 get-item-requires c κs = omega (arith, c .loop-test .taken)
 
 skip-requires : tie.Need-skip-requires Inv-loop μ-loop
-skip-requires c κs = (omega arith, omega (arith, c .before .before .before .loop .inv .few, c .before .before .loop-test .taken, c .before .before .before .before .before .before .before .before .before .pre .1 .1))
+skip-requires c κs =
+    let at-loop = c .before .before .before in
+    let at-start = at-loop .before .before .before .before .before .before in
+    (omega arith, omega (arith, at-loop .loop .inv .few, c .before .before .loop-test .taken, at-start .pre .1 .short))
 
 add-i : tie.Need-add-i Inv-loop μ-loop
 add-i c = omega (arith, c .before .before .before .loop-test .taken)
@@ -30,36 +34,51 @@ loop-less : tie.Need-loop-less Inv-loop μ-loop
 loop-less c = omega (arith, c .before .before .before .loop-test .taken)
 
 loop-again : tie.Need-loop-again Inv-loop μ-loop
-loop-again c = left-skipped (c .before .before .before .before .loop .inv) (c .before .before .before .loop-test .taken) (c .before .before .get-item .ensures) (omega arith) (c .skip .ensures)
+loop-again c =
+    let at-loop-test = c .before .before .before in
+    let at-loop = at-loop-test .before in
+    left-skipped (at-loop .loop .inv) (at-loop-test .loop-test .taken) (c .before .before .get-item .ensures) (omega arith) (c .skip .ensures)
 
 word-requires : tie.Need-word-requires Inv-loop μ-loop
 unfolding count
-word-requires c κs = omega (arith, c .before .before .loop-test .taken, c .before .before .before .before .before .before .before .before .before .pre .1 .2)
+word-requires c κs = omega (arith, c .before .before .loop-test .taken, c .before .before .before .before .before .before .before .before .before .pre .1 .numbered)
 
 fit-record-requires : tie.Need-fit-record-requires Inv-loop μ-loop
 fit-record-requires c κs =
-    let a = c .before .before .before .before .before .before .before .before .before .before .pre in
-    ((a .0 .0, a .0 .3, c .before .before .before .before .loop .inv .inside, a .0 .1), left-item (c .before .before .before .before .loop .inv) (c .before .before .before .loop-test .taken) (c .before .before .get-item .ensures) (a .1 .0))
-
-enum-told : tie.Need-enum-told Inv-loop μ-loop
-enum-told c = search needs
+    let at-loop-test = c .before .before .before in
+    let at-loop = at-loop-test .before in
+    let at-start = at-loop .before .before .before .before .before .before in
+    let a = at-start .pre in (
+      (record { store = a .0 .0 .store; few = a .0 .0 .few; inside = at-loop .loop .inv .inside }, a .0 .1),
+      left-item (at-loop .loop .inv) (at-loop-test .loop-test .taken) (c .before .before .get-item .ensures) (a .1 .rule),
+    )
 
 returns : tie.Need-returns Inv-loop μ-loop
 returns c =
-    left-no (c .before .before .before .before .before .before .before .loop .inv) (c .before .before .before .before .before .before .loop-test .taken) (c .before .before .before .before .before .get-item .ensures) _ (c .before .before .before .before .if1 .left) (c .before .before .before .word .ensures) (c .before .before .fit-record .ensures .1) (c .enum-told .given .1)
-
-enum-told-2 : tie.Need-enum-told-2 Inv-loop μ-loop
-enum-told-2 c = search needs
+    let at-word = c .before .before .before in
+    let at-if1 = at-word .before in
+    let at-get-item = at-if1 .before in
+    let at-loop-test = at-get-item .before in
+    let at-loop = at-loop-test .before in
+    left-no (at-loop .loop .inv) (at-loop-test .loop-test .taken) (at-get-item .get-item .ensures) _ (at-if1 .if1 .left) (at-word .word .ensures)
+    (c .before .before .fit-record .ensures .1) (c .enum-told .given .1)
 
 returns-2 : tie.Need-returns-2 Inv-loop μ-loop
 returns-2 c =
-    left-ends (c .before .before .before .before .before .before .before .loop .inv) (c .before .before .before .before .before .before .loop-test .taken) (c .before .before .before .before .before .get-item .ensures) _ (c .before .before .before .before .if1 .left) (c .before .before .before .word .ensures) (c .before .before .fit-record .ensures .1) (c .enum-told2 .given .1)
-
-enum-known-k : tie.Need-enum-known-k Inv-loop μ-loop
-enum-known-k c = search needs
+    let at-word = c .before .before .before in
+    let at-if1 = at-word .before in
+    let at-get-item = at-if1 .before in
+    let at-loop-test = at-get-item .before in
+    let at-loop = at-loop-test .before in
+    left-ends (at-loop .loop .inv) (at-loop-test .loop-test .taken) (at-get-item .get-item .ensures) _ (at-if1 .if1 .left) (at-word .word .ensures)
+    (c .before .before .fit-record .ensures .1) (c .enum-told2 .given .1)
 
 add-start : tie.Need-add-start Inv-loop μ-loop
-add-start c = omega (arith, c .before .before .before .before .before .before .before .before .loop .inv .inside, taken-in _ _ _ (c .before .before .before .fit-record .ensures .0) (c .before .k .given .1), c .before .before .before .before .before .before .before .before .before .before .before .before .before .before .pre .0 .1)
+add-start c =
+    let at-fit-record = c .before .before .before in
+    let at-loop = at-fit-record .before .before .before .before .before in
+    let at-start = at-loop .before .before .before .before .before .before in
+    omega (arith, at-loop .loop .inv .inside, taken-in _ _ _ (at-fit-record .fit-record .ensures .0) (c .before .k .given .1), at-start .pre .0 .0 .few)
 
 sub-len : tie.Need-sub-len Inv-loop μ-loop
 sub-len c = taken-in _ _ _ (c .before .before .before .fit-record .ensures .0) (c .before .k .given .1)
@@ -75,8 +94,14 @@ loop-less-2 c = omega (arith, c .before .before .before .before .before .before 
 
 loop-again-2 : tie.Need-loop-again-2 Inv-loop μ-loop
 loop-again-2 c =
-    left-takes (c .before .before .before .before .before .before .before .before .before .loop .inv) (c .before .before .before .before .before .before .before .before .loop-test .taken) (c .before .before .before .before .before .before .before .get-item .ensures) _ (c .before .before .before .before .before .before .if1 .left) (c .before .before .before .before .before .word .ensures) (c .before .before .before .before .fit-record .ensures .1) (c .before .before .before .before .fit-record .ensures .0) (c .before .before .k .given .1)
-    (c .opens .ensures)
+    let at-fit-record = c .before .before .before .before in
+    let at-word = at-fit-record .before in
+    let at-if1 = at-word .before in
+    let at-get-item = at-if1 .before in
+    let at-loop-test = at-get-item .before in
+    let at-loop = at-loop-test .before in
+    left-takes (at-loop .loop .inv) (at-loop-test .loop-test .taken) (at-get-item .get-item .ensures) _ (at-if1 .if1 .left) (at-word .word .ensures)
+    (at-fit-record .fit-record .ensures .1) (at-fit-record .fit-record .ensures .0) (c .before .before .k .given .1) (c .opens .ensures)
 
 returns-3 : tie.Need-returns-3 Inv-loop μ-loop
 returns-3 c = left-end (c .before .loop .inv) (c .loop-test .left)
@@ -95,11 +120,11 @@ rigid-run-matches-spec =
     loop-again
     word-requires
     fit-record-requires
-    enum-told
+    (λ c. search needs)
     returns
-    enum-told-2
+    (λ c. search needs)
     returns-2
-    enum-known-k
+    (λ c. search needs)
     add-start
     sub-len
     opens-requires

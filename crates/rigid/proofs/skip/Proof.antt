@@ -4,14 +4,8 @@ use Rattle.rigid.specs.FitLaws.{skips-open, skips-close, skips-other}
 use Rattle.rigid.proofs.skip.Statement.{statement}
 use Rattle.rigid.proofs.skip.Tie as tie
 
-add-result : tie.Need-add-result
-add-result c = search needs
-
 returns : tie.Need-returns
 returns c = skips-open _ _ (c .if1 .taken)
-
-sub-result : tie.Need-sub-result
-sub-result c = search needs
 
 returns-2 : tie.Need-returns-2
 returns-2 c = skips-close _ _ (c .if2 .taken)
@@ -20,4 +14,4 @@ returns-3 : tie.Need-returns-3
 returns-3 c = skips-other _ _ (c .before .if1 .left) (c .if2 .left)
 
 pub skip-spec : {M : Type 1} → statement M
-skip-spec = tie.close (tie.spec add-result returns sub-result returns-2 returns-3)
+skip-spec = tie.close (tie.spec (λ c. search needs) returns (λ c. search needs) returns-2 returns-3)

@@ -8,31 +8,20 @@ use Rattle.rigid.proofs.skip_apart.Tie as tie
 returns : tie.Need-returns
 returns c = (omega arith, search needs, λ i a b. absurd (omega arith))
 
-get-item-requires : tie.Need-get-item-requires
-get-item-requires c κs = search needs
-
 returns-2 : tie.Need-returns-2
 returns-2 c = (omega arith, search needs, λ i a b. absurd (omega arith))
 
-add-next-begin : tie.Need-add-next-begin
-add-next-begin c = search needs
-
-add-next-begin-2 : tie.Need-add-next-begin-2
-add-next-begin-2 c = search needs
-
-next-begin-requires : tie.Need-next-begin-requires
-next-begin-requires c κs = search needs
-
-sub-result : tie.Need-sub-result
-sub-result c = search needs
-
 returns-3 : tie.Need-returns-3
 returns-3 c =
+    let at-if2 = c .before .before .before .before in
+    let at-get-item = at-if2 .before .before in
+    let at-if1 = at-get-item .before in
+    let at-start = at-if1 .before .before .before in
     let n = c .before .next-begin .ensures in
-    let h = c .before .before .before .before .before .before .before .before .before .before .pre in (
+    let h = at-start .pre in (
       omega (arith, n .0),
       omega (arith, n .1, h .1),
-      λ i a b. apart-at _ _ _ _ _ (c .before .before .before .before .before .before .get-item .ensures) (c .before .before .before .before .before .before .before .if1 .left) (omega (arith, c .before .before .before .before .if2 .left)) (n .2 _ (omega arith) (omega (arith, n .0))),
+      λ i a b. apart-at _ _ _ _ _ (at-get-item .get-item .ensures) (at-if1 .if1 .left) (omega (arith, at-if2 .if2 .left)) (n .2 _ (omega arith) (omega (arith, n .0))),
     )
 
 pub skip-apart-spec : {M : Type 1} → statement M
@@ -40,10 +29,10 @@ skip-apart-spec =
     tie.close
     (tie.spec
     returns
-    get-item-requires
+    (λ c κs. search needs)
     returns-2
-    add-next-begin
-    add-next-begin-2
-    next-begin-requires
-    sub-result
+    (λ c. search needs)
+    (λ c. search needs)
+    (λ c κs. search needs)
+    (λ c. search needs)
     returns-3)

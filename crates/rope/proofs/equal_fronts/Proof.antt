@@ -1,90 +1,138 @@
--- `equal_fronts`: the terms read so far are equal, and as many of each are read. Each turn settles both pieces: if the runs that they begin with
--- differ so do the fronts, and if not both go on by the length of the shorter run, which is at least 1.
+-- `equal_fronts`: the terms read so far are equal, and as many of each are read. Each turn takes both pieces down to runs: if these differ so do
+-- the fronts, and if not both go on by the length of the shorter run, which is at least 1.
 use native.Mathlib.Omega.{arith}
 use borrow.Author.Needs.{needs}
 use borrow.Author.Tests.{not-true, not-false}
 use Prim.Native.Nat.{_-_, _≤_}
 use Rattle.term_spec.specs.TermLaws.{values-length}
 use Rattle.term_spec.specs.WordsLaws.{decode-length}
-use Rattle.nodes.specs.Store.{nodesIn}
+use Rattle.nodes.specs.NodeStore.{nodesIn, AnyStore}
 use Rattle.value.specs.Equal.{valuesIn}
-use Rattle.rope.specs.Pieces.{restOf}
+use Rattle.rope.specs.Pieces.{mostFields, restOf}
 use Rattle.rope.specs.PiecesLaws.{along-short}
-use Rattle.rope.specs.FrontLaws.{Fronts, Pair, terms-same, fronts-start, fronts-settled, fronts-pair, fronts-differ, fronts-more, fronts-all}
+use Rattle.rope.specs.FrontLaws.{Fronts, Pair, terms-same, fronts-start, fronts-run, fronts-pair, fronts-differ, fronts-more, fronts-all}
 use Rattle.rope.proofs.equal_fronts.Statement.{statement}
 use Rattle.rope.proofs.equal_fronts.Tie as tie
 
 abbrev Inv-loop : tie.InvT-loop
 Inv-loop names terms terms-used nodes nodes-used f g n f-stack₀ g-stack₀ a₀ b₀ done₀ f-stack g-stack a b done =
-    (a .depth ≤ 32) × (b .depth ≤ 32) × Fronts (valuesIn names terms terms-used) (nodesIn nodes nodes-used) f g n (restOf a f-stack) (restOf b g-stack) done
+    (a .depth ≤ mostFields) × (b .depth ≤ mostFields)
+    × Fronts (valuesIn names terms terms-used) (nodesIn nodes nodes-used) f g n (restOf a f-stack) (restOf b g-stack) done
 
 abbrev μ-loop : tie.MeasureT-loop
 μ-loop names terms terms-used nodes nodes-used f g n f-stack₀ g-stack₀ a₀ b₀ done₀ f-stack g-stack a b done = n - done
 
--- both pieces are settled
-settled : (c : tie.After-settle2 Inv-loop μ-loop)
-    → let x = c .before .before .before .before .before .before .before .before .before .before .args in
+-- the nodes
+store : (start : tie.Start Inv-loop μ-loop) → AnyStore (start .args .nodes .now) (start .args .nodes-used)
+store start = record { terms = start .args .terms-used; few-terms = start .pre .0 .1; store = start .pre .1 .0 }
+
+-- both pieces begin with a run
+both : (c : tie.After-to-run2 Inv-loop μ-loop)
+    → let first = c .before .before in
+    let at-loop = first .before .before .before in
+    let x = at-loop .before .before .before .before .before .args in
     Fronts (valuesIn (x .names .now) (x .terms .now) (x .terms-used)) (nodesIn (x .nodes .now) (x .nodes-used)) (x .f) (x .g) (x .n)
-    (restOf (c .before .before .settle .result) (c .before .before .settle .last .1 .1 .1 .0)) (restOf (c .settle2 .result) (c .settle2 .last .1 .1 .1 .0)) (c .before .before .before .before .before .loop .done)
-settled c = fronts-settled (c .before .before .before .before .before .loop .inv .2) (rw (values-length, decode-length)) (c .before .before .settle .ensures .1) (c .settle2 .ensures .1)
+    (restOf (first .to-run .result) (first .to-run .last .1 .1 .0)) (restOf (c .to-run2 .result) (c .to-run2 .last .1 .1 .0)) (at-loop .loop .done)
+both c = let first = c .before .before in fronts-run (first .before .before .before .loop .inv .2) (first .to-run .ensures .1) (c .to-run2 .ensures .1)
 
 -- the two runs of a turn
 pair : (c : tie.After-smaller Inv-loop μ-loop)
-    → let x = c .before .before .before .before .before .before .before .before .before .before .before .before .before .args in
-    Pair (valuesIn (x .names .now) (x .terms .now) (x .terms-used)) (nodesIn (x .nodes .now) (x .nodes-used)) (x .f) (x .g) (x .n) (c .before .before .before .before .before .before .before .before .loop .done)
-    (c .before .before .before .before .before .settle .result .left) (c .before .before .before .settle2 .result .left) (c .before .before .front .result .start) (c .before .front2 .result .start) (c .smaller .result)
-pair c = fronts-pair (settled (c .before .before .before)) (c .before .before .before .before .before .before .before .loop-test .taken) (c .before .before .before .before .before .settle .ensures .2) (c .before .before .front .ensures) (c .before .before .before .settle2 .ensures .2) (c .before .front2 .ensures) (c .smaller .ensures)
+    → let runs = c .before in
+    let second = runs .before .before in
+    let first = second .before .before in
+    let at-loop = first .before .before .before in
+    let x = at-loop .before .before .before .before .before .args in
+    Pair (valuesIn (x .names .now) (x .terms .now) (x .terms-used)) (nodesIn (x .nodes .now) (x .nodes-used)) (x .f) (x .g) (x .n) (at-loop .loop .done)
+    (first .to-run .result .left) (second .to-run2 .result .left) (runs .before .front .result .start) (runs .front2 .result .start) (c .smaller .result)
+pair c =
+    let runs = c .before in
+    let second = runs .before .before in
+    let first = second .before .before in
+    let in-loop = first .before .before in
+    fronts-pair (both second) (in-loop .loop-test .taken) (first .to-run .ensures .2) (runs .before .front .ensures) (second .to-run2 .ensures .2) (runs .front2 .ensures)
+    (c .smaller .ensures)
 
 returns : tie.Need-returns Inv-loop μ-loop
 returns c = terms-same _ _ (rw (c .if1 .taken))
 
 loop-holds : tie.Need-loop-holds Inv-loop μ-loop
-loop-holds c = let s = c .before .before .before .before in (omega arith, omega arith, fronts-start _ _ _ _ _ _ _ _ (s .pre .0 .1) (s .pre .1 .0) (s .pre .1 .1) _ _)
+loop-holds c =
+    let start = c .before .before .before .before in
+    (omega arith, omega arith, fronts-start _ _ _ _ _ _ _ _ (start .pre .1 .0) (start .pre .1 .1 .0) (start .pre .1 .1 .1) _ _)
 
-settle-requires : tie.Need-settle-requires Inv-loop μ-loop
-settle-requires c κs = let i = c .before .before .loop .inv in (c .before .before .before .before .before .before .before .pre .0 .1, i .2 .left .ready (c .before .loop-test .taken), i .0)
+to-run-requires : tie.Need-to-run-requires Inv-loop μ-loop
+to-run-requires c κs =
+    let in-loop = c .before in
+    let at-loop = in-loop .before in
+    let inv = at-loop .loop .inv in
+    (store (at-loop .before .before .before .before .before), inv .2 .left .ready (in-loop .loop-test .taken), inv .0)
 
-settle-requires-2 : tie.Need-settle-requires-2 Inv-loop μ-loop
-settle-requires-2 c κs = let i = c .before .before .before .before .loop .inv in (c .before .before .before .before .before .before .before .before .before .pre .0 .1, i .2 .right .ready (c .before .before .before .loop-test .taken), i .1)
+to-run-requires-2 : tie.Need-to-run-requires-2 Inv-loop μ-loop
+to-run-requires-2 c κs =
+    let in-loop = c .before .before .before in
+    let at-loop = in-loop .before in
+    let inv = at-loop .loop .inv in
+    (store (at-loop .before .before .before .before .before), inv .2 .right .ready (in-loop .loop-test .taken), inv .1)
 
 front-requires : tie.Need-front-requires Inv-loop μ-loop
-front-requires c κs = let e = c .before .before .settle .ensures in (c .before .before .before .before .before .before .before .before .before .before .pre .0 .1, c .before .before .before .before .before .before .before .before .before .before .pre .0 .2, rw decode-length at (e .1 .ready .low), e .2)
+front-requires c κs =
+    let first = c .before .before in
+    let start = first .before .before .before .before .before .before .before .before in
+    (store start, rw decode-length at (first .to-run .ensures .1 .ready .low), first .to-run .ensures .2)
 
 front-requires-2 : tie.Need-front-requires-2 Inv-loop μ-loop
-front-requires-2 c κs = let e = c .before .settle2 .ensures in (c .before .before .before .before .before .before .before .before .before .before .before .pre .0 .1, c .before .before .before .before .before .before .before .before .before .before .before .pre .0 .2, rw decode-length at (e .1 .ready .low), e .2)
-
-smaller-requires : tie.Need-smaller-requires Inv-loop μ-loop
-smaller-requires c κs = search needs
+front-requires-2 c κs =
+    let second = c .before in
+    let start = second .before .before .before .before .before .before .before .before .before .before in
+    (store start, rw decode-length at (second .to-run2 .ensures .1 .ready .low), second .to-run2 .ensures .2)
 
 equal-runs-requires : tie.Need-equal-runs-requires Inv-loop μ-loop
-equal-runs-requires c κs = (
-  (c .before .before .before .before .before .before .before .before .before .before .before .before .before .pre .0 .0, c .before .before .before .before .before .before .before .before .before .before .before .before .before .pre .0 .2),
-  (rw (values-length, decode-length) at (pair c .left .inside), rw (values-length, decode-length) at (pair c .right .inside)),
-)
+equal-runs-requires c κs =
+    let second = c .before .before .before in
+    let start = second .before .before .before .before .before .before .before .before .before .before in
+    (start .pre .0, (rw (values-length, decode-length) at (pair c .left .inside), rw (values-length, decode-length) at (pair c .right .inside)))
 
 returns-2 : tie.Need-returns-2 Inv-loop μ-loop
 returns-2 c = fronts-differ _ _ _ (pair (c .before .before)) (c .before .equal-runs .ensures) (not-true _ (c .if2 .taken))
 
 add-done : tie.Need-add-done Inv-loop μ-loop
-add-done c = omega (arith, c .before .before .before .before .before .before .before .before .before .before .before .before .before .before .before .fits .n, pair (c .before .before) .left .most)
+add-done c =
+    let chosen = c .before .before in
+    let second = chosen .before .before .before in
+    let start = second .before .before .before .before .before .before .before .before .before .before in
+    omega (arith, start .fits .n, pair chosen .left .most)
 
 past-requires : tie.Need-past-requires Inv-loop μ-loop
 past-requires c κs =
-    let p = c .before .before .before in
-    (pair p .left .within, along-short (settled (p .before .before .before) .left) (p .before .before .before .before .before .before .before .loop-test .taken), p .before .before .before .before .before .settle .ensures .0, pair p .left .most)
+    let chosen = c .before .before .before in
+    let second = chosen .before .before .before in
+    let first = second .before .before in
+    let in-loop = first .before .before in
+    (pair chosen .left .within, along-short (both second .left) (in-loop .loop-test .taken), first .to-run .ensures .0, pair chosen .left .most)
 
 past-requires-2 : tie.Need-past-requires-2 Inv-loop μ-loop
 past-requires-2 c κs =
-    let p = c .before .before .before .before .before in
-    (pair p .right .within, along-short (settled (p .before .before .before) .right) (p .before .before .before .before .before .before .before .loop-test .taken), p .before .before .before .settle2 .ensures .0, pair p .right .most)
+    let chosen = c .before .before .before .before .before in
+    let second = chosen .before .before .before in
+    let in-loop = second .before .before .before .before in
+    (pair chosen .right .within, along-short (both second .right) (in-loop .loop-test .taken), second .to-run2 .ensures .0, pair chosen .right .most)
 
 loop-less : tie.Need-loop-less Inv-loop μ-loop
 loop-less c = let p = pair (c .before .before .before .before .before .before) in omega (arith, p .left .some, p .left .most)
 
 loop-again : tie.Need-loop-again Inv-loop μ-loop
 loop-again c =
-    let p = c .before .before .before .before .before .before in
-    (c .before .before .past .ensures .0, c .past2 .ensures .0, fronts-more _ _ _ (pair p) (c .before .before .before .before .before .equal-runs .ensures) (not-false _ (c .before .before .before .before .if2 .left)) (p .before .before .before .before .before .before .before .loop-test .taken) (settled (p .before .before .before)) (pair p .left .within) (pair p .right .within) (c .before .before .past .ensures .1) (c .past2 .ensures .1))
+    let past-first = c .before .before in
+    let alike = past-first .before .before in
+    let compared = alike .before in
+    let chosen = compared .before in
+    let second = chosen .before .before .before in
+    let in-loop = second .before .before .before .before in (
+      past-first .past .ensures .0,
+      c .past2 .ensures .0,
+      fronts-more _ _ _ (pair chosen) (compared .equal-runs .ensures) (not-false _ (alike .if2 .left)) (in-loop .loop-test .taken) (both second)
+          (pair chosen .left .within) (pair chosen .right .within) (past-first .past .ensures .1) (c .past2 .ensures .1),
+    )
 
 returns-3 : tie.Need-returns-3 Inv-loop μ-loop
 returns-3 c = fronts-all (c .before .loop .inv .2) (omega arith)
@@ -97,11 +145,11 @@ equal-fronts-spec =
     μ-loop
     returns
     loop-holds
-    settle-requires
-    settle-requires-2
+    to-run-requires
+    to-run-requires-2
     front-requires
     front-requires-2
-    smaller-requires
+    (λ c κs. search needs)
     equal-runs-requires
     returns-2
     add-done

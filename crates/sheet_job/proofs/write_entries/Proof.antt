@@ -7,12 +7,13 @@ use borrow.Author.Needs.{needs}
 use lib.ListN.{length}
 use Rattle.sheet_spec.specs.Job.{laidAt, entryLines}
 use Rattle.sheet_spec.specs.LaidLaws.{laidAt-none}
+use Rattle.sheet_form.specs.Form.{lineBytes}
 use Rattle.sheet_job.specs.JobLaws.{entries-step}
 use Rattle.sheet_job.proofs.write_entries.Statement.{statement}
 use Rattle.sheet_job.proofs.write_entries.Tie as tie
 
 abbrev Inv-loop : tie.InvT-loop
-Inv-loop slots k n out₀ i₀ out i = (i ≤ n) × (length out ≡ length out₀) × (out ≡ laidAt out₀ 41 (entryLines k slots 0 i))
+Inv-loop slots k n out₀ i₀ out i = (i ≤ n) × (length out ≡ length out₀) × (out ≡ laidAt out₀ lineBytes (entryLines k slots 0 i))
 
 abbrev μ-loop : tie.MeasureT-loop
 μ-loop slots k n out₀ i₀ out i = n - i
@@ -21,54 +22,30 @@ loop-holds : tie.Need-loop-holds Inv-loop μ-loop
 unfolding entryLines
 loop-holds c = (omega arith, refl, sym (laidAt-none _ _))
 
-mul-word : tie.Need-mul-word Inv-loop μ-loop
-mul-word c = search needs
-
-word-requires : tie.Need-word-requires Inv-loop μ-loop
-word-requires c κs = search needs
-
-mul-word-2 : tie.Need-mul-word-2 Inv-loop μ-loop
-mul-word-2 c = search needs
-
-add-word : tie.Need-add-word Inv-loop μ-loop
-add-word c = search needs
-
-word-requires-2 : tie.Need-word-requires-2 Inv-loop μ-loop
-word-requires-2 c κs = search needs
-
-mul-write-line : tie.Need-mul-write-line Inv-loop μ-loop
-mul-write-line c = search needs
-
 add-write-line : tie.Need-add-write-line Inv-loop μ-loop
-add-write-line c = search needs
-
-div-write-line : tie.Need-div-write-line Inv-loop μ-loop
-div-write-line c = search needs
+add-write-line c =
+    let at-loop = c .before .before .before .before in
+    let at-start = at-loop .before .before .before in
+    omega (arith, div-le-self (at-loop .loop .i) (at-start .args .k))
 
 add-write-line-2 : tie.Need-add-write-line-2 Inv-loop μ-loop
-add-write-line-2 c = omega (arith, div-le-self (c .before .before .before .before .loop .i) (c .before .before .before .before .before .before .before .args .k))
-
-rem-write-line : tie.Need-rem-write-line Inv-loop μ-loop
-rem-write-line c = search needs
-
-add-write-line-3 : tie.Need-add-write-line-3 Inv-loop μ-loop
-add-write-line-3 c = omega (arith, mod-le (c .before .before .before .before .loop .i) (c .before .before .before .before .before .before .before .args .k))
-
-write-line-requires : tie.Need-write-line-requires Inv-loop μ-loop
-write-line-requires c κs = search needs
-
-add-i : tie.Need-add-i Inv-loop μ-loop
-add-i c = search needs
-
-loop-less : tie.Need-loop-less Inv-loop μ-loop
-loop-less c = search needs
+add-write-line-2 c =
+    let at-loop = c .before .before .before .before in
+    let at-start = at-loop .before .before .before in
+    omega (arith, mod-le (at-loop .loop .i) (at-start .args .k))
 
 loop-again : tie.Need-loop-again Inv-loop μ-loop
-loop-again c = (
-  omega arith,
-  c .before .before .write-line .kept .0 ∙ c .before .before .before .before .before .before .before .loop .inv .1,
-  entries-step (c .before .before .before .before .before .before .before .before .before .before .args .k) _ _ _ _ _ (omega arith) (c .before .before .before .before .before .before .before .loop .inv .2) (rw (← c .before .before .before .before .before .word .ensures, ← c .before .before .before .before .word2 .ensures) (c .before .before .write-line .ensures)),
-)
+loop-again c =
+    let at-write-line = c .before .before in
+    let at-word2 = at-write-line .before .before in
+    let at-word = at-word2 .before in
+    let at-loop = at-word .before .before in
+    let at-start = at-loop .before .before .before in (
+      omega arith,
+      at-write-line .write-line .kept .0 ∙ at-loop .loop .inv .1,
+      entries-step (at-start .args .k) _ _ _ _ _ (omega arith) (at-loop .loop .inv .2)
+          (rw (← at-word .word .ensures, ← at-word2 .word2 .ensures) (at-write-line .write-line .ensures)),
+    )
 
 same-length : tie.Need-same-length Inv-loop μ-loop
 same-length c = c .before .loop .inv .1
@@ -83,20 +60,20 @@ write-entries-spec =
     Inv-loop
     μ-loop
     loop-holds
-    mul-word
-    word-requires
-    mul-word-2
-    add-word
-    word-requires-2
-    mul-write-line
+    (λ c. search needs)
+    (λ c κs. search needs)
+    (λ c. search needs)
+    (λ c. search needs)
+    (λ c κs. search needs)
+    (λ c. search needs)
+    (λ c. search needs)
+    (λ c. search needs)
     add-write-line
-    div-write-line
+    (λ c. search needs)
     add-write-line-2
-    rem-write-line
-    add-write-line-3
-    write-line-requires
-    add-i
-    loop-less
+    (λ c κs. search needs)
+    (λ c. search needs)
+    (λ c. search needs)
     loop-again
     same-length
     returns)

@@ -24,16 +24,10 @@ returns-5 c = (digit-first _ _ _ _ (omega arith) (omega arith) (not-true _ (c .i
 returns-6 : tie.Need-returns-6
 returns-6 c = (digit-zero _ _ _ _ (omega arith) (omega arith) (not-false _ (c .before .before .if5 .left)) (c .if6 .taken), omega arith)
 
-mul-t6 : tie.Need-mul-t6
-mul-t6 c = search needs
-
-add-t8 : tie.Need-add-t8
-add-t8 c = search needs
-
 returns-7 : tie.Need-returns-7
 returns-7 c = (digit-more _ _ _ _ (omega arith) (omega arith) (not-false _ (c .before .before .before .if5 .left)) (c .before .if6 .left), omega arith)
 
 pub next-spec : {M : Type 1} → statement M
 next-spec =
     tie.close
-    (tie.spec returns returns-2 returns-3 returns-4 returns-5 returns-6 mul-t6 add-t8 returns-7)
+    (tie.spec returns returns-2 returns-3 returns-4 returns-5 returns-6 (λ c. search needs) (λ c. search needs) returns-7)

@@ -19,20 +19,8 @@ loop-holds : tie.Need-loop-holds Inv-loop μ-loop
 unfolding tens scan columnsBy
 loop-holds c = (omega arith, refl, omega arith)
 
-add-byte-at : tie.Need-add-byte-at Inv-loop μ-loop
-add-byte-at c = omega arith
-
-byte-at-requires : tie.Need-byte-at-requires Inv-loop μ-loop
-byte-at-requires c κs = omega arith
-
 next-requires : tie.Need-next-requires Inv-loop μ-loop
 next-requires c κs = omega (arith, tens-bound (c .before .before .loop .k) (omega arith))
-
-add-k : tie.Need-add-k Inv-loop μ-loop
-add-k c = omega arith
-
-loop-less : tie.Need-loop-less Inv-loop μ-loop
-loop-less c = omega arith
 
 loop-again : tie.Need-loop-again Inv-loop μ-loop
 loop-again c =
@@ -46,10 +34,16 @@ returns-2 : tie.Need-returns-2 Inv-loop μ-loop
 returns-2 c = let l = c .before .before .before .before .before .loop in show-blank _ _ _ _ _ _ (l .inv .0) (omega arith) (l .inv .1) (not-true _ (c .if2 .taken))
 
 returns-3 : tie.Need-returns-3 Inv-loop μ-loop
-returns-3 c = let l = c .before .before .before .before .before .before .before .loop in show-small _ _ _ _ _ _ (l .inv .0) (omega arith) (l .inv .1) (not-false _ (c .before .before .before .before .if1 .left)) (not-false _ (c .before .before .if2 .left)) (c .if3 .taken)
+returns-3 c =
+    let at-if1 = c .before .before .before .before in
+    let at-loop = at-if1 .before .before .before in
+    let l = at-loop .loop in show-small _ _ _ _ _ _ (l .inv .0) (omega arith) (l .inv .1) (not-false _ (at-if1 .if1 .left)) (not-false _ (c .before .before .if2 .left)) (c .if3 .taken)
 
 returns-4 : tie.Need-returns-4 Inv-loop μ-loop
-returns-4 c = let l = c .before .before .before .before .before .before .before .loop in show-large _ _ _ _ _ _ (l .inv .0) (omega arith) (l .inv .1) (not-false _ (c .before .before .before .before .if1 .left)) (not-false _ (c .before .before .if2 .left)) (c .if3 .left)
+returns-4 c =
+    let at-if1 = c .before .before .before .before in
+    let at-loop = at-if1 .before .before .before in
+    let l = at-loop .loop in show-large _ _ _ _ _ _ (l .inv .0) (omega arith) (l .inv .1) (not-false _ (at-if1 .if1 .left)) (not-false _ (c .before .before .if2 .left)) (c .if3 .left)
 
 pub number-at-spec : {M : Type 1} → statement M
 number-at-spec =
@@ -58,11 +52,11 @@ number-at-spec =
     Inv-loop
     μ-loop
     loop-holds
-    add-byte-at
-    byte-at-requires
+    (λ c. omega arith)
+    (λ c κs. omega arith)
     next-requires
-    add-k
-    loop-less
+    (λ c. omega arith)
+    (λ c. omega arith)
     loop-again
     returns
     returns-2

@@ -1,65 +1,63 @@
 -- `read_body` reads the lines of a sheet in form: they lie in the text, since the first line says where it ends.
 use native.Mathlib.Omega.{arith}
-use Rattle.sheet_spec.specs.Sheet.{sheetAt}
-use Rattle.sheet_read.specs.SheetLaws.{head-says, body-says}
 use borrow.Author.Needs.{needs}
+use Rattle.sheet_spec.specs.SheetLaws.{HeadFacts, head-facts, BodyFacts, body-facts}
+use Rattle.sheet_form.specs.Form.{asCounts}
+use Rattle.sheet_read.specs.SheetLaws.{head-limits, all-filled}
 use Rattle.sheet_read.proofs.read_body.Statement.{statement}
 use Rattle.sheet_read.proofs.read_body.Tie as tie
 
+-- What the first line says, and that the lines after it are in form.
+head : (s : tie.Start) → HeadFacts (s .args .text .now) (asCounts (s .args .c))
+head s = head-facts _ _ (s .pre .0 .head)
+
+body : (s : tie.Start) → BodyFacts (s .args .text .now) (asCounts (s .args .c))
+body s = body-facts _ _ (s .pre .0 .body)
+
 read-lines-requires : tie.Need-read-lines-requires
-read-lines-requires c κs = let q = c .before .before .before .before .before .pre in ((omega (arith, head-says _ _ (q .0 .0)), omega arith, q .1 .0), body-says _ _ (q .0 .1) .0)
+read-lines-requires c κs =
+    let start = c .before .before .before .before .before in
+    ((omega (arith, head start), omega arith, start .pre .1 .terms), body start .terms)
 
-mul-pattern-at : tie.Need-mul-pattern-at
-mul-pattern-at c = omega (arith, head-says _ _ (c .before .before .before .before .before .before .before .before .before .pre .0 .0))
-
-add-pattern-at : tie.Need-add-pattern-at
-add-pattern-at c = omega (arith, head-says _ _ (c .before .before .before .before .before .before .before .before .before .pre .0 .0))
-
-add-pattern-at-2 : tie.Need-add-pattern-at-2
-add-pattern-at-2 c = omega (arith, head-says _ _ (c .before .before .before .before .before .before .before .before .before .before .pre .0 .0))
-
-add-pattern-at-3 : tie.Need-add-pattern-at-3
-add-pattern-at-3 c = omega (arith, head-says _ _ (c .before .before .before .before .before .before .before .before .before .before .pre .0 .0))
+pattern-start-requires : tie.Need-pattern-start-requires
+pattern-start-requires c κs = let start = c .before .before .before .before .before .before .before .before in head-limits _ _ (start .pre .0 .head)
 
 read-lines-requires-2 : tie.Need-read-lines-requires-2
-read-lines-requires-2 c κs = let q = c .before .before .before .before .before .before .before .before .before .before .before .pre in ((omega (arith, head-says _ _ (q .0 .0)), omega arith, q .1 .1), body-says _ _ (q .0 .1) .1)
+read-lines-requires-2 c κs =
+    let at-pattern = c .before in
+    let start = at-pattern .before .before .before .before .before .before .before .before .before in
+    ((omega (arith, head start, at-pattern .pattern-start .ensures), omega arith, start .pre .1 .pattern), rw (at-pattern .pattern-start .ensures) (body start .pattern))
 
-mul-read-lines : tie.Need-mul-read-lines
-mul-read-lines c = omega (arith, head-says _ _ (c .before .before .before .before .before .before .before .before .before .before .before .before .before .before .before .pre .0 .0))
-
-add-read-lines : tie.Need-add-read-lines
-add-read-lines c = omega (arith, head-says _ _ (c .before .before .before .before .before .before .before .before .before .before .before .before .before .before .before .pre .0 .0))
+runs-start-requires : tie.Need-runs-start-requires
+runs-start-requires c κs =
+    let at-pattern = c .before .before .before .before in
+    let start = at-pattern .before .before .before .before .before .before .before .before .before in
+    head-limits _ _ (start .pre .0 .head)
 
 read-lines-requires-3 : tie.Need-read-lines-requires-3
-read-lines-requires-3 c κs = let q = c .before .before .before .before .before .before .before .before .before .before .before .before .before .before .before .before .pre in ((omega (arith, head-says _ _ (q .0 .0)), omega arith, q .1 .2), body-says _ _ (q .0 .1) .2)
-
-same-length : tie.Need-same-length
-same-length c = search needs
-
-same-length-2 : tie.Need-same-length-2
-same-length-2 c = search needs
-
-same-length-3 : tie.Need-same-length-3
-same-length-3 c = search needs
+read-lines-requires-3 c κs =
+    let at-runs = c .before in
+    let at-pattern = at-runs .before .before .before .before .before in
+    let start = at-pattern .before .before .before .before .before .before .before .before .before in
+    ((omega (arith, head start, at-runs .runs-start .ensures), omega arith, start .pre .1 .runs), rw (at-runs .runs-start .ensures) (body start .runs))
 
 returns : tie.Need-returns
-unfolding sheetAt
-returns c = (c .before .before .before .before .before .before .before .before .before .before .before .before .before .read-lines .ensures, c .before .before .before .before .before .before .before .read-lines2 .ensures, c .before .before .read-lines3 .ensures)
+returns c =
+    let at-runs = c .before .before .before .before in
+    let at-pattern = at-runs .before .before .before .before .before in
+    all-filled _ _ _ _ _ (at-pattern .before .before .before .read-lines .ensures) (at-pattern .pattern-start .ensures) (at-runs .before .before .before .read-lines2 .ensures)
+    (at-runs .runs-start .ensures) (c .before .before .read-lines3 .ensures)
 
 pub read-body-spec : {M : Type 1} → statement M
 read-body-spec =
     tie.close
     (tie.spec
     read-lines-requires
-    mul-pattern-at
-    add-pattern-at
-    add-pattern-at-2
-    add-pattern-at-3
+    pattern-start-requires
     read-lines-requires-2
-    mul-read-lines
-    add-read-lines
+    runs-start-requires
     read-lines-requires-3
-    same-length
-    same-length-2
-    same-length-3
+    (λ c. search needs)
+    (λ c. search needs)
+    (λ c. search needs)
     returns)

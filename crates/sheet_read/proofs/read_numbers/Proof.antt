@@ -18,32 +18,19 @@ abbrev μ-loop : tie.MeasureT-loop
 loop-holds : tie.Need-loop-holds Inv-loop μ-loop
 loop-holds c = (omega arith, numbers-none _ _ 0 _ _)
 
-add-set-word : tie.Need-add-set-word Inv-loop μ-loop
-add-set-word c = omega arith
-
-mul-number-at : tie.Need-mul-number-at Inv-loop μ-loop
-mul-number-at c = omega arith
-
-add-number-at : tie.Need-add-number-at Inv-loop μ-loop
-add-number-at c = omega arith
-
-number-at-requires : tie.Need-number-at-requires Inv-loop μ-loop
-number-at-requires c κs = omega arith
-
 set-word-requires : tie.Need-set-word-requires Inv-loop μ-loop
-set-word-requires c κs = (
-  numbers-room _ _ _ _ _ (omega arith) (c .before .before .before .loop .inv .1),
-  omega (arith, number-below _ _ _ _ (c .before .before .before .before .before .before .pre .1) (c .before .before .loop-test .taken)),
-)
-
-add-i : tie.Need-add-i Inv-loop μ-loop
-add-i c = omega arith
-
-loop-less : tie.Need-loop-less Inv-loop μ-loop
-loop-less c = omega arith
+set-word-requires c κs =
+    let at-loop = c .before .before .before in
+    let at-start = at-loop .before .before .before in (
+      numbers-room _ _ _ _ _ (omega arith) (at-loop .loop .inv .1),
+      omega (arith, number-below _ _ _ _ (at-start .pre .1) (c .before .before .loop-test .taken)),
+    )
 
 loop-again : tie.Need-loop-again Inv-loop μ-loop
-loop-again c = (omega arith, numbers-set _ _ _ _ _ (omega arith) (c .before .before .before .before .before .before .loop .inv .1) (c .before .before .before .number-at .ensures) (c .before .before .set-word .ensures))
+loop-again c =
+    let at-number-at = c .before .before .before in
+    let at-loop = at-number-at .before .before .before in
+    (omega arith, numbers-set _ _ _ _ _ (omega arith) (at-loop .loop .inv .1) (at-number-at .number-at .ensures) (c .before .before .set-word .ensures))
 
 same-length : tie.Need-same-length Inv-loop μ-loop
 same-length c = ap length (c .before .loop .inv .1) ∙ numbers-kept _ _ _ _ _ (omega arith)
@@ -58,13 +45,13 @@ read-numbers-spec =
     Inv-loop
     μ-loop
     loop-holds
-    add-set-word
-    mul-number-at
-    add-number-at
-    number-at-requires
+    (λ c. omega arith)
+    (λ c. omega arith)
+    (λ c. omega arith)
+    (λ c κs. omega arith)
     set-word-requires
-    add-i
-    loop-less
+    (λ c. omega arith)
+    (λ c. omega arith)
     loop-again
     same-length
     returns)

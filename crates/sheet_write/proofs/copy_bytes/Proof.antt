@@ -19,25 +19,12 @@ abbrev μ-loop : tie.MeasureT-loop
 loop-holds : tie.Need-loop-holds Inv-loop μ-loop
 loop-holds c = (omega arith, refl, sym (laidAt-none _ _))
 
-shared-slice-read-out : tie.Need-shared-slice-read-out Inv-loop μ-loop
-shared-slice-read-out c = search needs
-
-add-out : tie.Need-add-out Inv-loop μ-loop
-add-out c = search needs
-
-slice-write-out : tie.Need-slice-write-out Inv-loop μ-loop
-slice-write-out c = search needs
-
-add-i : tie.Need-add-i Inv-loop μ-loop
-add-i c = search needs
-
-loop-less : tie.Need-loop-less Inv-loop μ-loop
-loop-less c = search needs
-
 loop-again : tie.Need-loop-again Inv-loop μ-loop
 loop-again c =
-    let h : c .before .before .loop .i < length (c .before .before .before .args .bytes .now) = omega arith in
-    (omega arith, simp length-set (c .before .before .loop .inv .1), bytes-turn _ _ _ _ _ h (omega arith) (c .before .before .loop .inv .2))
+    let at-loop = c .before .before in
+    let at-start = at-loop .before in
+    let h : at-loop .loop .i < length (at-start .args .bytes .now) = omega arith in
+    (omega arith, simp length-set (at-loop .loop .inv .1), bytes-turn _ _ _ _ _ h (omega arith) (at-loop .loop .inv .2))
 
 same-length : tie.Need-same-length Inv-loop μ-loop
 same-length c = c .before .loop .inv .1
@@ -52,11 +39,11 @@ copy-bytes-spec =
     Inv-loop
     μ-loop
     loop-holds
-    shared-slice-read-out
-    add-out
-    slice-write-out
-    add-i
-    loop-less
+    (λ c. search needs)
+    (λ c. search needs)
+    (λ c. search needs)
+    (λ c. search needs)
+    (λ c. search needs)
     loop-again
     same-length
     returns)

@@ -16,45 +16,27 @@ Inv-loop out₀ p v left₀ k₀ out left k = (k ≤ 9) × (length out ≡ lengt
 abbrev μ-loop : tie.MeasureT-loop
 μ-loop out₀ p v left₀ k₀ out left k = k
 
-add-set-byte : tie.Need-add-set-byte Inv-loop μ-loop
-add-set-byte c = search needs
-
-add-set-byte-2 : tie.Need-add-set-byte-2 Inv-loop μ-loop
-add-set-byte-2 c = search needs
-
-set-byte-requires : tie.Need-set-byte-requires Inv-loop μ-loop
-set-byte-requires c κs = search needs
-
 loop-holds : tie.Need-loop-holds Inv-loop μ-loop
 loop-holds c = (omega arith, refl, refl)
 
-sub-k : tie.Need-sub-k Inv-loop μ-loop
-sub-k c = search needs
-
-add-set-byte-3 : tie.Need-add-set-byte-3 Inv-loop μ-loop
-add-set-byte-3 c = search needs
-
-digit-of-requires : tie.Need-digit-of-requires Inv-loop μ-loop
-digit-of-requires c κs = search needs
-
-set-byte-requires-2 : tie.Need-set-byte-requires-2 Inv-loop μ-loop
-set-byte-requires-2 c κs = search needs
-
-loop-less : tie.Need-loop-less Inv-loop μ-loop
-loop-less c = search needs
-
 loop-again : tie.Need-loop-again Inv-loop μ-loop
-loop-again c = (
-  omega arith,
-  c .before .before .set-byte2 .kept .0 ∙ c .before .before .before .before .before .before .loop .inv .1,
-  leading-step _ _ _ _ _ _ (omega arith) (omega arith) (c .before .before .before .digit-of .ensures .0) (c .before .before .set-byte2 .ensures) ∙ c .before .before .before .before .before .before .loop .inv .2,
-)
+loop-again c =
+    let at-set-byte2 = c .before .before in
+    let at-digit-of = at-set-byte2 .before in
+    let at-loop = at-digit-of .before .before .before in (
+      omega arith,
+      at-set-byte2 .set-byte2 .kept .0 ∙ at-loop .loop .inv .1,
+      leading-step _ _ _ _ _ _ (omega arith) (omega arith) (at-digit-of .digit-of .ensures .0) (at-set-byte2 .set-byte2 .ensures) ∙ at-loop .loop .inv .2,
+    )
 
 same-length : tie.Need-same-length Inv-loop μ-loop
 same-length c = c .before .loop .inv .1 ∙ c .before .before .before .before .set-byte .kept .0
 
 returns : tie.Need-returns Inv-loop μ-loop
-returns c = column-whole _ _ _ _ _ _ _ (omega arith) (c .before .before .before .before .before .before .before .pre) (c .before .before .before .before .set-byte .ensures) (c .before .loop .inv .2)
+returns c =
+    let at-set-byte = c .before .before .before .before in
+    let at-start = at-set-byte .before .before .before in
+    column-whole _ _ _ _ _ _ _ (omega arith) (at-start .pre) (at-set-byte .set-byte .ensures) (c .before .loop .inv .2)
 
 pub write-column-spec : {M : Type 1} → statement M
 write-column-spec =
@@ -62,15 +44,15 @@ write-column-spec =
     (tie.spec
     Inv-loop
     μ-loop
-    add-set-byte
-    add-set-byte-2
-    set-byte-requires
+    (λ c. search needs)
+    (λ c. search needs)
+    (λ c κs. search needs)
     loop-holds
-    sub-k
-    add-set-byte-3
-    digit-of-requires
-    set-byte-requires-2
-    loop-less
+    (λ c. search needs)
+    (λ c. search needs)
+    (λ c κs. search needs)
+    (λ c κs. search needs)
+    (λ c. search needs)
     loop-again
     same-length
     returns)

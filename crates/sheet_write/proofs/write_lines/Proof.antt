@@ -1,6 +1,6 @@
 -- `write_lines`: the lines that are left to write, laid on what is there, come to the same as all of them; there is room for them.
 use mathlib.Core.Path.{_≡_, refl, _∙_}
-use Prim.Native.Nat.{_≤_, _<_, _+_, _*_, _-_}
+use Prim.Native.Nat.{_≤_, _+_, _*_, _-_}
 use native.Mathlib.Omega.{arith}
 use borrow.Author.Needs.{needs}
 use lib.ListN.{length, drop}
@@ -11,68 +11,60 @@ use Rattle.sheet_write.proofs.write_lines.Statement.{statement}
 use Rattle.sheet_write.proofs.write_lines.Tie as tie
 
 abbrev Inv-loop : tie.InvT-loop
-Inv-loop out₀ p words kept zeros n width at₀ w₀ i₀ out at w i =
-    (i ≤ n) × (length out ≡ length out₀) × (at + lineWidth kept zeros * (n - i) ≤ length out₀) × (w + kept * (n - i) ≤ length words)
-    × (laidAt out at (lines kept zeros (n - i) (drop w words)) ≡ laidAt out₀ p (lines kept zeros n words))
+Inv-loop out₀ p words form n width at₀ w₀ i₀ out at w i =
+    (i ≤ n) × (length out ≡ length out₀) × (at + lineWidth (form .kept) (form .zeros) * (n - i) ≤ length out₀) × (w + form .kept * (n - i) ≤ length words)
+    × (laidAt out at (lines (form .kept) (form .zeros) (n - i) (drop w words)) ≡ laidAt out₀ p (lines (form .kept) (form .zeros) n words))
 
 abbrev μ-loop : tie.MeasureT-loop
-μ-loop out₀ p words kept zeros n width at₀ w₀ i₀ out at w i = n - i
+μ-loop out₀ p words form n width at₀ w₀ i₀ out at w i = n - i
 
-add-width : tie.Need-add-width Inv-loop μ-loop
-add-width c = search needs
+-- There is room for the next line and for those after it, in the text and in the words.
+text-room : (c : tie.In-loop Inv-loop μ-loop)
+    → let l = c .before .loop in
+    let a = c .before .before .before .before .before .args in
+    let width = lineWidth (a .form .kept) (a .form .zeros) in
+    l .at + width + width * (a .n - (l .i + 1)) ≤ length (a .out .now)
+text-room c = room-turn _ (lineWidth _ _) _ _ _ (c .loop-test .taken) (c .before .loop .inv .2)
 
-mul-width : tie.Need-mul-width Inv-loop μ-loop
-mul-width c = search needs
-
-add-width-2 : tie.Need-add-width-2 Inv-loop μ-loop
-add-width-2 c = search needs
+words-room : (c : tie.In-loop Inv-loop μ-loop)
+    → let l = c .before .loop in
+    let a = c .before .before .before .before .before .args in
+    l .w + a .form .kept + a .form .kept * (a .n - (l .i + 1)) ≤ length (a .words .now)
+words-room c = room-turn _ _ _ _ _ (c .loop-test .taken) (c .before .loop .inv .3)
 
 loop-holds : tie.Need-loop-holds Inv-loop μ-loop
-loop-holds c = (omega arith, refl, room-start _ _ _ _ (c .before .before .pre .0), room-start 0 _ _ _ (omega arith), lines-start _ _ _ _ _ _)
+loop-holds c =
+    let start = c .before .before .before in
+    (omega arith, refl, room-start _ (lineWidth _ _) _ _ (start .pre .0), room-start 0 _ _ _ (omega arith), lines-start _ _ _ _ _ _)
 
 write-record-requires : tie.Need-write-record-requires Inv-loop μ-loop
-write-record-requires c κs =
-    let lt : c .before .before .loop .i < c .before .before .before .before .before .args .n = omega arith in
-    let a = room-turn _ _ _ _ _ lt (c .before .before .loop .inv .2) in
-    let b = room-turn _ _ _ _ _ lt (c .before .before .loop .inv .3) in
-    (omega arith, omega arith)
+write-record-requires c κs = (omega (arith, text-room (c .before)), omega arith, omega (arith, words-room (c .before)))
 
 add-at : tie.Need-add-at Inv-loop μ-loop
-add-at c =
-    let lt : c .before .before .before .before .before .loop .i < c .before .before .before .before .before .before .before .before .args .n = omega arith in
-    let a = room-turn _ _ _ _ _ lt (c .before .before .before .before .before .loop .inv .2) in
-    omega arith
+add-at c = let in-loop = c .before .before .before .before in omega (arith, text-room in-loop, in-loop .before .before .width .ensures)
 
 add-w : tie.Need-add-w Inv-loop μ-loop
-add-w c =
-    let lt : c .before .before .before .before .before .loop .i < c .before .before .before .before .before .before .before .before .args .n = omega arith in
-    let a = room-turn _ _ _ _ _ lt (c .before .before .before .before .before .loop .inv .3) in
-    omega arith
-
-add-i : tie.Need-add-i Inv-loop μ-loop
-add-i c = search needs
-
-loop-less : tie.Need-loop-less Inv-loop μ-loop
-loop-less c = search needs
+add-w c = omega (arith, words-room (c .before .before .before .before .before))
 
 loop-again : tie.Need-loop-again Inv-loop μ-loop
 loop-again c =
-    let lt : c .before .before .before .before .before .loop .i < c .before .before .before .before .before .before .before .before .args .n = omega arith in
-    let a = room-turn _ _ _ _ _ lt (c .before .before .before .before .before .loop .inv .2) in
-    let b = room-turn _ _ _ _ _ lt (c .before .before .before .before .before .loop .inv .3) in
-    let k : c .before .before .before .before .before .loop .w + c .before .before .before .before .before .before .before .before .args .kept ≤ length (c .before .before .before .before .before .before .before .before .args .words .now) = omega arith in (
+    let at-call = c .before .before .before in
+    let in-loop = at-call .before .before in
+    let at-loop = in-loop .before in
+    let z = at-loop .before .width .ensures in
+    let i = at-loop .loop .inv in (
       omega arith,
-      c .before .before .write-record .kept .0 ∙ c .before .before .before .before .before .loop .inv .1,
-      a,
-      b,
-      lines-turn _ _ _ _ _ _ _ _ _ lt k (omega arith) (c .before .before .write-record .ensures) ∙ c .before .before .before .before .before .loop .inv .4,
+      at-call .write-record .kept .0 ∙ i .1,
+      omega (arith, text-room in-loop, z),
+      words-room in-loop,
+      lines-turn _ _ _ _ _ _ _ _ _ z (in-loop .loop-test .taken) (omega (arith, words-room in-loop)) (omega (arith, text-room in-loop)) (at-call .write-record .ensures) ∙ i .4,
     )
 
 same-length : tie.Need-same-length Inv-loop μ-loop
 same-length c = c .before .loop .inv .1
 
 returns : tie.Need-returns Inv-loop μ-loop
-returns c = let h : c .before .before .before .before .args .n - c .before .loop .i ≤ 0 = omega arith in lines-whole _ _ _ _ _ _ _ _ _ _ h (c .before .loop .inv .4)
+returns c = lines-whole _ _ _ _ _ _ _ _ _ _ (omega arith) (c .before .loop .inv .4)
 
 pub write-lines-spec : {M : Type 1} → statement M
 write-lines-spec =
@@ -80,15 +72,13 @@ write-lines-spec =
     (tie.spec
     Inv-loop
     μ-loop
-    add-width
-    mul-width
-    add-width-2
+    (λ c κs. search needs)
     loop-holds
     write-record-requires
     add-at
     add-w
-    add-i
-    loop-less
+    (λ c. search needs)
+    (λ c. search needs)
     loop-again
     same-length
     returns)

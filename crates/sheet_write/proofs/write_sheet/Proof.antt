@@ -1,94 +1,67 @@
--- `write_sheet`: one law of the sheet for each exit; what the callees ask follows from the bytes counted.
+-- `write_sheet`: one law of the sheet for each exit.
+use mathlib.Core.Path.{_≡_, sym, _∙_}
 use borrow.Author.Tests.{not-true, not-false}
 use native.Mathlib.Omega.{arith}
-use Rattle.sheet_write.specs.Write.{writtenOf}
-use Rattle.sheet_write.specs.SheetLaws.{uneven-refused, rule-limits, short-refused, sheet-written}
 use borrow.Author.Needs.{needs}
+use lib.Dec.{T}
+use lib.ListN.{length}
+use Rattle.sheet_spec.specs.Sheet.{Sheet, sheetText, sheetRule}
+use Rattle.sheet_spec.specs.SheetLaws.{countsOf}
+use Rattle.sheet_form.specs.FormLaws.{rule-holds}
+use Rattle.sheet_write.specs.Write.{writtenOf, sheetOf}
+use Rattle.sheet_write.specs.SheetLaws.{uneven-refused, rule-limits, text-length, short-refused, sheet-written}
 use Rattle.sheet_write.proofs.write_sheet.Statement.{statement}
 use Rattle.sheet_write.proofs.write_sheet.Tie as tie
 
-sheet-ok-requires : tie.Need-sheet-ok-requires
-sheet-ok-requires c κs = search needs
+-- The sheet.
+abbrev sheet : tie.Start → Sheet
+sheet s = sheetOf (s .args .terms .now) (s .args .names .now) (s .args .pattern .now) (s .args .runs .now)
+
+-- It can be written, past the first test.
+rule : (e : tie.Else1) → T (sheetRule (sheet (e .before .before .before .before .before .before .before)))
+rule e = rule-holds (e .before .sheet-ok .ensures) (e .if1 .left)
+
+-- Its text is as long as was counted.
+size : (c : tie.After-end) → length (sheetText (sheet (c .before .before .before .before .before .before .before .before .before))) ≡ c .end .result
+unfolding countsOf
+size c = let at-counts = c .before in text-length _ (rule (at-counts .before)) (at-counts .counts-of .ensures) ∙ sym (c .end .ensures)
 
 returns : tie.Need-returns
 unfolding writtenOf
-returns c = uneven-refused _ _ _ _ (c .before .sheet-ok .ensures) _ (not-true _ (c .if1 .taken))
+returns c = uneven-refused _ _ (c .before .sheet-ok .ensures) (not-true _ (c .if1 .taken))
 
-sheet-bytes-requires : tie.Need-sheet-bytes-requires
-sheet-bytes-requires c κs = rule-limits _ _ _ _ (c .before .sheet-ok .ensures) (not-false _ (c .if1 .left))
+end-requires : tie.Need-end-requires
+unfolding countsOf
+end-requires c κs = rule-limits _ (rule (c .before)) (c .counts-of .ensures)
 
 returns-2 : tie.Need-returns-2
 unfolding writtenOf
-returns-2 c = short-refused _ _ _ _ (c .before .before .before .sheet-ok .ensures) _ _ (not-false _ (c .before .before .if1 .left)) (c .before .sheet-bytes .ensures) (omega arith)
+returns-2 c =
+    let at-end = c .before in
+    let at-if1 = at-end .before .before in
+    short-refused _ _ (at-if1 .before .sheet-ok .ensures) (not-false _ (at-if1 .if1 .left)) (size at-end) (c .if2 .taken)
 
-write-line-requires : tie.Need-write-line-requires
-write-line-requires c κs = search needs
-
-write-lines-requires : tie.Need-write-lines-requires
-write-lines-requires c κs = search needs
-
-mul-names-at : tie.Need-mul-names-at
-mul-names-at c = search needs
-
-add-names-at : tie.Need-add-names-at
-add-names-at c = search needs
-
-copy-bytes-requires : tie.Need-copy-bytes-requires
-copy-bytes-requires c κs = search needs
-
-add-pattern-at : tie.Need-add-pattern-at
-add-pattern-at c = search needs
-
-add-pattern-at-2 : tie.Need-add-pattern-at-2
-add-pattern-at-2 c = search needs
-
-sub-set-byte : tie.Need-sub-set-byte
-sub-set-byte c = search needs
-
-set-byte-requires : tie.Need-set-byte-requires
-set-byte-requires c κs = search needs
-
-write-lines-requires-2 : tie.Need-write-lines-requires-2
-write-lines-requires-2 c κs = search needs
-
-mul-write-lines : tie.Need-mul-write-lines
-mul-write-lines c = search needs
-
-add-write-lines : tie.Need-add-write-lines
-add-write-lines c = search needs
-
-write-lines-requires-3 : tie.Need-write-lines-requires-3
-write-lines-requires-3 c κs = search needs
-
-same-length : tie.Need-same-length
-same-length c = search needs
+write-parts-requires : tie.Need-write-parts-requires
+write-parts-requires c κs = let at-end = c .before .before in (rule (at-end .before .before), omega (arith, size at-end))
 
 returns-3 : tie.Need-returns-3
 unfolding writtenOf
 returns-3 c =
-    sheet-written _ _ _ _ (c .before .before .before .before .before .before .before .before .before .before .before .before .before .before .before .before .before .before .before .before .before .before .before .before .before .before .before .sheet-ok .ensures) _ _ _ _ _ _ _ _ (not-false _ (c .before .before .before .before .before .before .before .before .before .before .before .before .before .before .before .before .before .before .before .before .before .before .before .before .before .before .if1 .left)) (c .before .before .before .before .before .before .before .before .before .before .before .before .before .before .before .before .before .before .before .before .before .before .before .before .before .sheet-bytes .ensures) (omega arith) (c .before .before .before .before .before .before .before .before .before .before .before .before .before .before .before .before .before .before .before .before .before .before .write-line .ensures) (c .before .before .before .before .before .before .before .before .before .before .before .before .before .before .before .before .before .before .write-lines .ensures)
-    (c .before .before .before .before .before .before .before .before .before .before .before .before .before .before .copy-bytes .ensures) (c .before .before .before .before .before .before .before .before .before .before .set-byte .ensures) (c .before .before .before .before .before .before .write-lines2 .ensures) (c .before .before .write-lines3 .ensures)
+    let at-parts = c .before .before in
+    let at-if2 = at-parts .before .before in
+    let at-end = at-if2 .before in
+    let at-if1 = at-end .before .before in
+    sheet-written _ _ (at-if1 .before .sheet-ok .ensures) (not-false _ (at-if1 .if1 .left)) (size at-end) (at-if2 .if2 .left) (at-parts .write-parts .ensures)
 
 pub write-sheet-spec : {M : Type 1} → statement M
 write-sheet-spec =
     tie.close
     (tie.spec
-    sheet-ok-requires
+    (λ c κs. search needs)
     returns
-    sheet-bytes-requires
+    (λ c κs. search needs)
+    end-requires
     returns-2
-    write-line-requires
-    write-lines-requires
-    mul-names-at
-    add-names-at
-    copy-bytes-requires
-    add-pattern-at
-    add-pattern-at-2
-    sub-set-byte
-    set-byte-requires
-    write-lines-requires-2
-    mul-write-lines
-    add-write-lines
-    write-lines-requires-3
-    same-length
+    write-parts-requires
+    (λ c. search needs)
     returns-3)

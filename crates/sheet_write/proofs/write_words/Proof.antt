@@ -21,40 +21,25 @@ loop-holds : tie.Need-loop-holds Inv-loop μ-loop
 unfolding columns
 loop-holds c = (omega arith, refl, sym (laidAt-none _ _))
 
-mul-write-column : tie.Need-mul-write-column Inv-loop μ-loop
-mul-write-column c = search needs
-
-add-write-column : tie.Need-add-write-column Inv-loop μ-loop
-add-write-column c = search needs
-
-add-word : tie.Need-add-word Inv-loop μ-loop
-add-word c = search needs
-
-word-requires : tie.Need-word-requires Inv-loop μ-loop
-word-requires c κs = search needs
-
-write-column-requires : tie.Need-write-column-requires Inv-loop μ-loop
-write-column-requires c κs = search needs
-
-add-i : tie.Need-add-i Inv-loop μ-loop
-add-i c = search needs
-
-loop-less : tie.Need-loop-less Inv-loop μ-loop
-loop-less c = search needs
-
 loop-again : tie.Need-loop-again Inv-loop μ-loop
 loop-again c =
-    let h : c .before .before .before .before .before .before .before .before .before .args .w + c .before .before .before .before .before .before .loop .i < length (c .before .before .before .before .before .before .before .before .before .args .words .now) = omega arith in (
+    let at-write-column = c .before .before in
+    let at-word = at-write-column .before in
+    let at-loop = at-word .before .before .before in
+    let at-start = at-loop .before .before .before in
+    let h : at-start .args .w + at-loop .loop .i < length (at-start .args .words .now) = omega arith in (
       omega arith,
-      c .before .before .write-column .kept .0 ∙ c .before .before .before .before .before .before .loop .inv .1,
-      words-turn _ _ _ _ _ _ _ _ h (omega arith) (c .before .before .before .before .before .before .loop .inv .2) (c .before .before .before .word .ensures) (c .before .before .write-column .ensures),
+      at-write-column .write-column .kept .0 ∙ at-loop .loop .inv .1,
+      words-turn _ _ _ _ _ _ _ _ h (omega arith) (at-loop .loop .inv .2) (at-word .word .ensures) (at-write-column .write-column .ensures),
     )
 
 same-length : tie.Need-same-length Inv-loop μ-loop
 same-length c = c .before .loop .inv .1
 
 returns : tie.Need-returns Inv-loop μ-loop
-returns c = let e : c .before .loop .i ≡ c .before .before .before .before .args .kept = omega arith in words-whole _ _ (c .before .before .before .before .args .words .now) _ (c .before .before .before .before .args .w) _ _ e (c .before .loop .inv .2)
+returns c =
+    let at-start = c .before .before .before .before in
+    let e : c .before .loop .i ≡ at-start .args .kept = omega arith in words-whole _ _ (at-start .args .words .now) _ (at-start .args .w) _ _ e (c .before .loop .inv .2)
 
 pub write-words-spec : {M : Type 1} → statement M
 write-words-spec =
@@ -63,13 +48,13 @@ write-words-spec =
     Inv-loop
     μ-loop
     loop-holds
-    mul-write-column
-    add-write-column
-    add-word
-    word-requires
-    write-column-requires
-    add-i
-    loop-less
+    (λ c. search needs)
+    (λ c. search needs)
+    (λ c. search needs)
+    (λ c κs. search needs)
+    (λ c κs. search needs)
+    (λ c. search needs)
+    (λ c. search needs)
     loop-again
     same-length
     returns)

@@ -14,11 +14,12 @@ returns-2 c e = apart-never e
 returns-3 : tie.Need-returns-3
 returns-3 c e = apart-never e
 
-entry-requires : tie.Need-entry-requires
-entry-requires c κs = search needs
-
 returns-4 : tie.Need-returns-4
-returns-4 c e = ends-apart _ _ _ _ _ _ _ (c .before .before .before .before .before .before .if1 .left) (not-false _ (c .before .before .before .before .before .if2 .left)) (c .before .before .before .if3 .left) (c .before .before .entry .ensures _ (c .before .before .before .if3 .left)) (not-true _ e)
+returns-4 c e =
+    let at-entry = c .before .before in
+    let at-known = at-entry .before in
+    let at-last = at-known .before .before in
+    ends-apart _ _ _ _ _ _ _ (at-last .before .if1 .left) (not-false _ (at-last .if2 .left)) (at-known .if3 .left) (at-entry .entry .ensures _ (at-known .if3 .left)) (not-true _ e)
 
 pub ends-apart-spec : {M : Type 1} → statement M
-ends-apart-spec = tie.close (tie.spec returns returns-2 returns-3 entry-requires returns-4)
+ends-apart-spec = tie.close (tie.spec returns returns-2 returns-3 (λ c κs. search needs) returns-4)

@@ -6,11 +6,8 @@ use borrow.Author.Needs.{needs}
 use Rattle.steps.proofs.entry.Statement.{statement}
 use Rattle.steps.proofs.entry.Tie as tie
 
-get-run-requires : tie.Need-get-run-requires
-get-run-requires c κs = search needs
-
 returns : tie.Need-returns
 returns c n lt = c .get-run .ensures ∙ sym (decode-at runLayout n _ _ _ lt)
 
 pub entry-spec : {M : Type 1} → statement M
-entry-spec = tie.close (tie.spec get-run-requires returns)
+entry-spec = tie.close (tie.spec (λ c κs. search needs) returns)

@@ -9,50 +9,26 @@ use borrow.Author.Needs.{needs}
 use Rattle.steps.proofs.give.Statement.{statement}
 use Rattle.steps.proofs.give.Tie as tie
 
-mul-set-word : tie.Need-mul-set-word
-mul-set-word c = search needs
-
-set-word-requires : tie.Need-set-word-requires
-set-word-requires c κs = search needs
-
-mul-set-word-2 : tie.Need-mul-set-word-2
-mul-set-word-2 c = search needs
-
-add-set-word : tie.Need-add-set-word
-add-set-word c = search needs
-
-set-word-requires-2 : tie.Need-set-word-requires-2
-set-word-requires-2 c κs = search needs
-
-add-t8 : tie.Need-add-t8
-add-t8 c = search needs
-
-sub-t11 : tie.Need-sub-t11
-sub-t11 c = search needs
-
-add-t12 : tie.Need-add-t12
-add-t12 c = search needs
-
-same-length : tie.Need-same-length
-same-length c = search needs
-
 returns : tie.Need-returns
 returns c =
-    let a = c .before .before .before .before .before .before .before .before .before .before .before .args in
-    let e = c .before .before .before .before .set-word2 .ensures ∙ ap (λ l. set l (2 * a .s .bound + 1) (a .k)) (c .before .before .before .before .before .before .before .before .set-word .ensures) in
-    (refl, ap (entriesIn (a .s .bound + 1)) e ∙ entries-more (a .binds .now) (a .s .bound) (a .s .start) (a .k) (omega (arith, c .before .before .before .before .before .before .before .before .before .before .before .pre .2, c .before .before .before .before .before .before .before .before .before .before .before .pre .3)))
+    let at-set-word2 = c .before .before .before .before in
+    let at-set-word = at-set-word2 .before .before .before .before in
+    let at-start = at-set-word .before .before .before in
+    let a = at-start .args in
+    let e = at-set-word2 .set-word2 .ensures ∙ ap (λ l. set l (2 * a .s .bound + 1) (a .k)) (at-set-word .set-word .ensures) in
+    (refl, ap (entriesIn (a .s .bound + 1)) e ∙ entries-more (a .binds .now) (a .s .bound) (a .s .start) (a .k) (omega (arith, at-start .pre .2, at-start .pre .3)))
 
 pub give-spec : {M : Type 1} → statement M
 give-spec =
     tie.close
     (tie.spec
-    mul-set-word
-    set-word-requires
-    mul-set-word-2
-    add-set-word
-    set-word-requires-2
-    add-t8
-    sub-t11
-    add-t12
-    same-length
+    (λ c. search needs)
+    (λ c κs. search needs)
+    (λ c. search needs)
+    (λ c. search needs)
+    (λ c κs. search needs)
+    (λ c. search needs)
+    (λ c. search needs)
+    (λ c. search needs)
+    (λ c. search needs)
     returns)

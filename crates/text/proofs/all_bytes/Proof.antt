@@ -19,26 +19,11 @@ abbrev μ-loop : tie.MeasureT-loop
 loop-holds : tie.Need-loop-holds Inv-loop μ-loop
 loop-holds c = (omega arith, ap (spelled _) (left-all _ _ _))
 
-add-c : tie.Need-add-c Inv-loop μ-loop
-add-c c = omega arith
-
-shared-slice-read-c : tie.Need-shared-slice-read-c Inv-loop μ-loop
-shared-slice-read-c c = omega arith
-
-fits-byte-requires : tie.Need-fits-byte-requires Inv-loop μ-loop
-fits-byte-requires c κs = search needs
-
 returns : tie.Need-returns Inv-loop μ-loop
 returns c =
     let t = c .before .before .before in
     let e = sym (c .before .fits-byte .ensures) ∙ not-true _ (c .if1 .taken) in
     sym (t .before .loop .inv .1 ∙ spelled-more _ _ _ _ _ (t .loop-test .taken) (t .before .before .before .pre) e)
-
-add-i : tie.Need-add-i Inv-loop μ-loop
-add-i c = omega arith
-
-loop-less : tie.Need-loop-less Inv-loop μ-loop
-loop-less c = omega arith
 
 loop-again : tie.Need-loop-again Inv-loop μ-loop
 loop-again c =
@@ -56,11 +41,11 @@ all-bytes-spec =
     Inv-loop
     μ-loop
     loop-holds
-    add-c
-    shared-slice-read-c
-    fits-byte-requires
+    (λ c. omega arith)
+    (λ c. omega arith)
+    (λ c κs. search needs)
     returns
-    add-i
-    loop-less
+    (λ c. omega arith)
+    (λ c. omega arith)
     loop-again
     returns-2)

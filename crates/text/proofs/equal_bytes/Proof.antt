@@ -18,40 +18,20 @@ abbrev μ-loop : tie.MeasureT-loop
 loop-holds : tie.Need-loop-holds Inv-loop μ-loop
 loop-holds c = (omega arith, ap₂ (textsEqual _) (left-all _ _ _) (left-all _ _ _))
 
-add-fold-byte : tie.Need-add-fold-byte Inv-loop μ-loop
-add-fold-byte c = omega arith
-
-shared-slice-read-fold-byte : tie.Need-shared-slice-read-fold-byte Inv-loop μ-loop
-shared-slice-read-fold-byte c = omega arith
-
-fold-byte-requires : tie.Need-fold-byte-requires Inv-loop μ-loop
-fold-byte-requires c κs = search needs
-
-add-fold-byte-2 : tie.Need-add-fold-byte-2 Inv-loop μ-loop
-add-fold-byte-2 c = omega arith
-
-shared-slice-read-fold-byte-2 : tie.Need-shared-slice-read-fold-byte-2 Inv-loop μ-loop
-shared-slice-read-fold-byte-2 c = omega arith
-
-fold-byte-requires-2 : tie.Need-fold-byte-requires-2 Inv-loop μ-loop
-fold-byte-requires-2 c κs = search needs
-
 returns : tie.Need-returns Inv-loop μ-loop
 returns c =
-    let t = c .before .before .before .before .before in
+    let at-fold-byte = c .before .before .before in
+    let at-place5 = at-fold-byte .before .before in
+    let t = at-place5 in
     sym (t .before .loop .inv .1 ∙ same-stop _ _ _ _ _ _ (t .loop-test .taken) (t .before .before .before .pre .0) (t .before .before .before .pre .1)
-    (λ e. c .if1 .taken (c .before .before .before .fold-byte .ensures ∙ e ∙ sym (c .before .fold-byte2 .ensures))))
-
-add-i : tie.Need-add-i Inv-loop μ-loop
-add-i c = omega arith
-
-loop-less : tie.Need-loop-less Inv-loop μ-loop
-loop-less c = omega arith
+    (λ e. c .if1 .taken (at-fold-byte .fold-byte .ensures ∙ e ∙ sym (c .before .fold-byte2 .ensures))))
 
 loop-again : tie.Need-loop-again Inv-loop μ-loop
 loop-again c =
-    let t = c .before .before .before .before .before in
-    let e = sym (c .before .before .before .fold-byte .ensures) ∙ c .if1 .left ∙ c .before .fold-byte2 .ensures in
+    let at-fold-byte = c .before .before .before in
+    let at-place5 = at-fold-byte .before .before in
+    let t = at-place5 in
+    let e = sym (at-fold-byte .fold-byte .ensures) ∙ c .if1 .left ∙ c .before .fold-byte2 .ensures in
     (omega arith, t .before .loop .inv .1 ∙ same-more _ _ _ _ _ _ (t .loop-test .taken) (t .before .before .before .pre .0) (t .before .before .before .pre .1) e)
 
 returns-2 : tie.Need-returns-2 Inv-loop μ-loop
@@ -64,14 +44,14 @@ equal-bytes-spec =
     Inv-loop
     μ-loop
     loop-holds
-    add-fold-byte
-    shared-slice-read-fold-byte
-    fold-byte-requires
-    add-fold-byte-2
-    shared-slice-read-fold-byte-2
-    fold-byte-requires-2
+    (λ c. omega arith)
+    (λ c. omega arith)
+    (λ c κs. search needs)
+    (λ c. omega arith)
+    (λ c. omega arith)
+    (λ c κs. search needs)
     returns
-    add-i
-    loop-less
+    (λ c. omega arith)
+    (λ c. omega arith)
     loop-again
     returns-2)

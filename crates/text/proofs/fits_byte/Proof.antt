@@ -4,19 +4,13 @@ use borrow.Author.Needs.{needs}
 use Rattle.text.proofs.fits_byte.Statement.{statement}
 use Rattle.text.proofs.fits_byte.Tie as tie
 
-is-digit-requires : tie.Need-is-digit-requires
-is-digit-requires c κs = search needs
-
 returns : tie.Need-returns
 unfolding byteTest
 returns c = rw (c .before .if1 .taken) (c .is-digit .ensures)
-
-is-name-byte-requires : tie.Need-is-name-byte-requires
-is-name-byte-requires c κs = search needs
 
 returns-2 : tie.Need-returns-2
 unfolding byteTest
 returns-2 c = rw (c .before .if1 .left) (c .is-name-byte .ensures)
 
 pub fits-byte-spec : {M : Type 1} → statement M
-fits-byte-spec = tie.close (tie.spec is-digit-requires returns is-name-byte-requires returns-2)
+fits-byte-spec = tie.close (tie.spec (λ c κs. search needs) returns (λ c κs. search needs) returns-2)

@@ -4,9 +4,6 @@ use borrow.Author.Needs.{needs}
 use Rattle.text.proofs.fold_byte.Statement.{statement}
 use Rattle.text.proofs.fold_byte.Tie as tie
 
-lower-requires : tie.Need-lower-requires
-lower-requires c κs = search needs
-
 returns : tie.Need-returns
 unfolding folded
 returns c = rw (c .before .if1 .taken) (c .lower .ensures)
@@ -16,4 +13,4 @@ unfolding folded
 returns-2 c = rw (c .if1 .left)
 
 pub fold-byte-spec : {M : Type 1} → statement M
-fold-byte-spec = tie.close (tie.spec lower-requires returns returns-2)
+fold-byte-spec = tie.close (tie.spec (λ c κs. search needs) returns returns-2)

@@ -6,15 +6,9 @@ use borrow.Author.Needs.{needs}
 use Rattle.text.proofs.is_name_byte.Statement.{statement}
 use Rattle.text.proofs.is_name_byte.Tie as tie
 
-is-letter-requires : tie.Need-is-letter-requires
-is-letter-requires c κs = search needs
-
 returns : tie.Need-returns
 unfolding isNameByte
 returns c = simp (sym (c .before .is-letter .ensures) ∙ c .if1 .taken)
-
-is-digit-requires : tie.Need-is-digit-requires
-is-digit-requires c κs = search needs
 
 returns-2 : tie.Need-returns-2
 unfolding isNameByte
@@ -34,4 +28,4 @@ returns-4 c =
 
 pub is-name-byte-spec : {M : Type 1} → statement M
 is-name-byte-spec =
-    tie.close (tie.spec is-letter-requires returns is-digit-requires returns-2 returns-3 returns-4)
+    tie.close (tie.spec (λ c κs. search needs) returns (λ c κs. search needs) returns-2 returns-3 returns-4)

@@ -12,11 +12,8 @@ returns c = sym (lower-small _ (omega arith))
 returns-2 : tie.Need-returns-2
 returns-2 c = sym (lower-large _ (omega arith))
 
-add-result : tie.Need-add-result
-add-result c = search needs
-
 returns-3 : tie.Need-returns-3
 returns-3 c = sym (lower-capital _ (omega arith) (omega arith))
 
 pub lower-spec : {M : Type 1} → statement M
-lower-spec = tie.close (tie.spec returns returns-2 add-result returns-3)
+lower-spec = tie.close (tie.spec returns returns-2 (λ c. search needs) returns-3)

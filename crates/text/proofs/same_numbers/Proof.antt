@@ -8,11 +8,8 @@ use Rattle.text.proofs.same_numbers.Tie as tie
 returns : tie.Need-returns
 returns c = sym (numbers _ _ ∙ same-lengths _ _ _ _ _ _ (c .before .before .pre .0) (c .before .before .pre .1) (c .if1 .taken))
 
-equal-bytes-requires : tie.Need-equal-bytes-requires
-equal-bytes-requires c κs = search needs
-
 returns-2 : tie.Need-returns-2
 returns-2 c = rw (← c .before .if1 .left) (c .equal-bytes .ensures ∙ sym (numbers _ _))
 
 pub same-numbers-spec : {M : Type 1} → statement M
-same-numbers-spec = tie.close (tie.spec returns equal-bytes-requires returns-2)
+same-numbers-spec = tie.close (tie.spec returns (λ c κs. search needs) returns-2)

@@ -6,26 +6,11 @@ use borrow.Author.Needs.{needs}
 use Rattle.text.proofs.spells.Statement.{statement}
 use Rattle.text.proofs.spells.Tie as tie
 
-shared-slice-read-c : tie.Need-shared-slice-read-c
-shared-slice-read-c c = search needs
-
-is-letter-requires : tie.Need-is-letter-requires
-is-letter-requires c κs = search needs
-
 returns : tie.Need-returns
 returns c =
     let k = c .before .before .before in
     let e = sym (c .before .is-letter .ensures) ∙ not-true _ (c .if2 .taken) in
     rw (k .if1 .taken) (sym (spelling-identifier _ _ _ (k .before .before .pre .0) (k .before .before .pre .1) e))
-
-add-all-bytes : tie.Need-add-all-bytes
-add-all-bytes c = search needs
-
-sub-all-bytes : tie.Need-sub-all-bytes
-sub-all-bytes c = search needs
-
-all-bytes-requires : tie.Need-all-bytes-requires
-all-bytes-requires c κs = search needs
 
 returns-2 : tie.Need-returns-2
 returns-2 c =
@@ -33,14 +18,8 @@ returns-2 c =
     let e = sym (c .before .before .is-letter .ensures) ∙ not-false _ (c .before .if2 .left) in
     rw (k .if1 .taken) (c .all-bytes .ensures ∙ sym (spelling-identifier _ _ _ (k .before .before .pre .0) (k .before .before .pre .1) e))
 
-all-bytes-requires-2 : tie.Need-all-bytes-requires-2
-all-bytes-requires-2 c κs = search needs
-
 returns-3 : tie.Need-returns-3
 returns-3 c = rw (c .before .if3 .taken) (c .all-bytes2 .ensures ∙ sym (spelling-number _))
-
-all-bytes-requires-3 : tie.Need-all-bytes-requires-3
-all-bytes-requires-3 c κs = search needs
 
 returns-4 : tie.Need-returns-4
 returns-4 c = c .all-bytes3 .ensures ∙ sym (spelling-variable _ _ (c .before .before .if1 .left) (c .before .if3 .left))
@@ -49,14 +28,14 @@ pub spells-spec : {M : Type 1} → statement M
 spells-spec =
     tie.close
     (tie.spec
-    shared-slice-read-c
-    is-letter-requires
+    (λ c. search needs)
+    (λ c κs. search needs)
     returns
-    add-all-bytes
-    sub-all-bytes
-    all-bytes-requires
+    (λ c. search needs)
+    (λ c. search needs)
+    (λ c κs. search needs)
     returns-2
-    all-bytes-requires-2
+    (λ c κs. search needs)
     returns-3
-    all-bytes-requires-3
+    (λ c κs. search needs)
     returns-4)

@@ -19,18 +19,12 @@ returns-2 c = let n = c .before .before .before .args .n in simp (le-leb 1 n (om
 returns-3 : tie.Need-returns-3
 returns-3 c = sym (rule-out _ _ _ _ (omega arith) (omega arith) (omega arith))
 
-sub-if4 : tie.Need-sub-if4
-sub-if4 c = search needs
-
 returns-4 : tie.Need-returns-4
 returns-4 c = sym (rule-out _ _ _ _ (omega arith) (omega arith) (omega arith))
-
-spells-requires : tie.Need-spells-requires
-spells-requires c κs = search needs
 
 returns-5 : tie.Need-returns-5
 returns-5 c = c .spells .ensures ∙ sym (rule-in _ _ _ _ (omega arith) (omega arith) (omega arith))
 
 pub text-ok-spec : {M : Type 1} → statement M
 text-ok-spec =
-    tie.close (tie.spec returns returns-2 returns-3 sub-if4 returns-4 spells-requires returns-5)
+    tie.close (tie.spec returns returns-2 returns-3 (λ c. search needs) returns-4 (λ c κs. search needs) returns-5)

@@ -4,6 +4,7 @@ use borrow.Author.Needs.{needs}
 use mathlib.Core.Path.{_≡_, ap, sym, _∙_}
 use mathlib.Core.List.{[]}
 use Prim.Native.Nat.{_≤_, _-_}
+use native.Mathlib.Omega.{arith}
 use borrow.Author.Tests.{not-true, not-false}
 use lib.ListN.{length}
 use Rattle.term_spec.specs.Words.{decode}
@@ -25,48 +26,40 @@ abbrev μ-loop : tie.MeasureT-loop
 loop-holds : tie.Need-loop-holds Inv-loop μ-loop
 loop-holds c = (search needs, rest-all _ _ _, c .before .before .before .before .pre .1 .1, search needs, search needs)
 
-get-term-requires : tie.Need-get-term-requires Inv-loop μ-loop
-get-term-requires c κs = search needs
-
 term-ok-requires : tie.Need-term-ok-requires Inv-loop μ-loop
 term-ok-requires c κs = (search needs, tables-blocks _ (c .before .before .before .before .loop .inv .2) (search needs) (search needs))
 
-same-length : tie.Need-same-length Inv-loop μ-loop
-same-length c = search needs
-
-same-length-2 : tie.Need-same-length-2 Inv-loop μ-loop
-same-length-2 c = search needs
-
 returns : tie.Need-returns Inv-loop μ-loop
 returns c =
+    let at-get-term = c .before .before .before .before in
+    let at-loop-test = at-get-term .before in
+    let at-loop = at-loop-test .before in
     let b = sym (c .before .term-ok .ensures) ∙ not-true _ (c .if1 .taken) in
-    sym (c .before .before .before .before .before .before .loop .inv .1 ∙ rest-more _ _ _ _ (c .before .before .before .before .before .loop-test .taken) (c .before .before .before .before .get-term .ensures) b)
+    sym (at-loop .loop .inv .1 ∙ rest-more _ _ _ _ (at-loop-test .loop-test .taken) (at-get-term .get-term .ensures) b)
 
 enter-requires : tie.Need-enter-requires Inv-loop μ-loop
 enter-requires c κs = (search needs, search needs, depth-small _ _ _ (sym (not-false _ (c .before .before .if1 .left)) ∙ c .before .before .before .term-ok .ensures))
 
-add-i : tie.Need-add-i Inv-loop μ-loop
-add-i c = search needs
-
-loop-less : tie.Need-loop-less Inv-loop μ-loop
-loop-less c = search needs
-
 loop-again : tie.Need-loop-again Inv-loop μ-loop
 loop-again c =
-    let b = sym (c .before .before .before .before .before .before .before .before .term-ok .ensures) ∙ not-false _ (c .before .before .before .before .before .before .before .if1 .left) in
-    let t = c .before .before .before .before .before .before .before .before .before .before .before .get-term .ensures in (
+    let at-enter = c .before .before .before .before in
+    let at-if1 = at-enter .before .before .before in
+    let at-term-ok = at-if1 .before in
+    let at-get-term = at-term-ok .before .before .before in
+    let at-loop-test = at-get-term .before in
+    let at-loop = at-loop-test .before in
+    let at-start = at-loop .before .before .before .before .before in
+    let room = at-start .pre in
+    let more = at-loop-test .loop-test .taken in
+    let b = sym (at-term-ok .term-ok .ensures) ∙ not-false _ (at-if1 .if1 .left) in
+    let t = at-get-term .get-term .ensures in (
       search needs,
-      c .before .before .before .before .before .before .before .before .before .before .before .before .before .loop .inv .1 ∙ rest-more _ _ _ _ (c .before .before .before .before .before .before .before .before .before .before .before .before .loop-test .taken) t b,
-      tables-more _ (c .before .before .before .before .before .before .before .before .before .before .before .before .before .loop .inv .2) (search needs) (search needs) t (c .before .before .before .before .enter .ensures .0) (c .before .before .before .before .enter .ensures .1),
+      at-loop .loop .inv .1 ∙ rest-more _ _ _ _ more t b,
+      tables-more _ (at-loop .loop .inv .2) (omega (arith, at-loop .loop .inv)) (omega (arith, at-loop .loop .inv)) t (at-enter .enter .ensures .0)
+          (at-enter .enter .ensures .1),
       search needs,
       search needs,
     )
-
-same-length-3 : tie.Need-same-length-3 Inv-loop μ-loop
-same-length-3 c = search needs
-
-same-length-4 : tie.Need-same-length-4 Inv-loop μ-loop
-same-length-4 c = search needs
 
 returns-2 : tie.Need-returns-2 Inv-loop μ-loop
 returns-2 c =
@@ -80,15 +73,15 @@ all-ok-spec =
     Inv-loop
     μ-loop
     loop-holds
-    get-term-requires
+    (λ c κs. search needs)
     term-ok-requires
-    same-length
-    same-length-2
+    (λ c. search needs)
+    (λ c. search needs)
     returns
     enter-requires
-    add-i
-    loop-less
+    (λ c. search needs)
+    (λ c. search needs)
     loop-again
-    same-length-3
-    same-length-4
+    (λ c. search needs)
+    (λ c. search needs)
     returns-2)

@@ -19,22 +19,23 @@ returns-3 c = number-used _ _ _ (c .before .before .if1 .left) (c .before .if2 .
 returns-4 : tie.Need-returns-4
 returns-4 c = number-used _ _ _ (c .before .before .before .if1 .left) (c .before .before .if2 .left) (search needs)
 
-terms-ok-requires : tie.Need-terms-ok-requires
-terms-ok-requires c κs = search needs
-
 returns-5 : tie.Need-returns-5
 unfolding unless
 returns-5 c =
+    let at-if2 = c .before .before .before .before in
+    let at-if1 = at-if2 .before in
     let b = sym (not-true _ (c .if5 .taken)) ∙ c .before .terms-ok .ensures in
-    number-terms _ _ _ (c .before .before .before .before .before .if1 .left) (c .before .before .before .before .if2 .left) (search needs) b
+    number-terms _ _ _ (at-if1 .if1 .left) (at-if2 .if2 .left) (search needs) b
 
 returns-6 : tie.Need-returns-6
 unfolding unless
 returns-6 c =
+    let at-if2 = c .before .before .before .before in
+    let at-if1 = at-if2 .before in
     let b = sym (not-false _ (c .if5 .left)) ∙ c .before .terms-ok .ensures in
-    number-terms _ _ _ (c .before .before .before .before .before .if1 .left) (c .before .before .before .before .if2 .left) (search needs) b
+    number-terms _ _ _ (at-if1 .if1 .left) (at-if2 .if2 .left) (search needs) b
 
 pub check-terms-spec : {M : Type 1} → statement M
 check-terms-spec =
     tie.close
-    (tie.spec returns returns-2 returns-3 returns-4 terms-ok-requires returns-5 returns-6)
+    (tie.spec returns returns-2 returns-3 returns-4 (λ c κs. search needs) returns-5 returns-6)

@@ -5,21 +5,6 @@ use Rattle.value.specs.BlockLaws.{deepened-none, deepened-more}
 use Rattle.value.proofs.deepen.Statement.{statement}
 use Rattle.value.proofs.deepen.Tie as tie
 
-slice-read-wide : tie.Need-slice-read-wide
-slice-read-wide c = search needs
-
-wide-requires : tie.Need-wide-requires
-wide-requires c κs = search needs
-
-cast-table : tie.Need-cast-table
-cast-table c = search needs
-
-slice-write-table : tie.Need-slice-write-table
-slice-write-table c = search needs
-
-same-length : tie.Need-same-length
-same-length c = search needs
-
 returns : tie.Need-returns
 returns c = deepened-more _ _ (omega arith)
 
@@ -30,10 +15,10 @@ pub deepen-spec : {M : Type 1} → statement M
 deepen-spec =
     tie.close
     (tie.spec
-    slice-read-wide
-    wide-requires
-    cast-table
-    slice-write-table
-    same-length
+    (λ c. search needs)
+    (λ c κs. search needs)
+    (λ c. search needs)
+    (λ c. search needs)
+    (λ c. search needs)
     returns
     returns-2)

@@ -18,28 +18,13 @@ abbrev μ-loop : tie.MeasureT-loop
 loop-holds : tie.Need-loop-holds Inv-loop μ-loop
 loop-holds c = (search needs, deepest-none _ _)
 
-add-first-part : tie.Need-add-first-part Inv-loop μ-loop
-add-first-part c = search needs
-
-sub-first-part : tie.Need-sub-first-part Inv-loop μ-loop
-sub-first-part c = search needs
-
 first-part-requires : tie.Need-first-part-requires Inv-loop μ-loop
 first-part-requires c κs = (search needs, (blocks-below (c .before .before .before .before .before .pre .1) (omega arith), search needs))
-
-larger-requires : tie.Need-larger-requires Inv-loop μ-loop
-larger-requires c κs = search needs
-
-add-i : tie.Need-add-i Inv-loop μ-loop
-add-i c = search needs
-
-loop-less : tie.Need-loop-less Inv-loop μ-loop
-loop-less c = search needs
 
 loop-again : tie.Need-loop-again Inv-loop μ-loop
 loop-again c =
     let p = c .before .before in
-    (search needs, deepest-parts _ _ _ _ (p .before .before .loop .inv .1) (p .first-part .ensures .2) (c .before .larger .ensures))
+    (search needs, deepest-parts _ _ _ _ (p .before .before .loop .inv .1) (p .first-part .ensures .right) (c .before .larger .ensures))
 
 returns : tie.Need-returns Inv-loop μ-loop
 returns c = let e : c .before .loop .i ≡ c .before .before .before .before .before .args .n = search needs in rw (← e) (c .before .loop .inv .1)
@@ -51,11 +36,11 @@ deepest-spec =
     Inv-loop
     μ-loop
     loop-holds
-    add-first-part
-    sub-first-part
+    (λ c. search needs)
+    (λ c. search needs)
     first-part-requires
-    larger-requires
-    add-i
-    loop-less
+    (λ c κs. search needs)
+    (λ c. search needs)
+    (λ c. search needs)
     loop-again
     returns)

@@ -23,22 +23,20 @@ deepen-requires c κs =
 
 deepen-requires-2 : tie.Need-deepen-requires-2
 deepen-requires-2 c κs =
-    let t = c .before .before .before .before .before .before .before .before .before .args .t in
-    let e = depth-bracket (t .kind) (asTerm t) (c .before .before .before .before .before .if1 .left) in
+    let at-if1 = c .before .before .before .before .before in
+    let at-start = at-if1 .before .before .before .before in
+    let t = at-start .args .t in
+    let e = depth-bracket (t .kind) (asTerm t) (at-if1 .if1 .left) in
     (search needs, omega arith)
-
-same-length : tie.Need-same-length
-same-length c = search needs
-
-same-length-2 : tie.Need-same-length-2
-same-length-2 c = search needs
 
 returns-2 : tie.Need-returns-2
 returns-2 c =
-    let e = depth-bracket _ _ (c .before .before .before .before .before .before .before .before .if1 .left) in
-    (c .before .before .before .before .before .before .deepen .ensures ∙ ap (deepened _ _) e, c .before .before .deepen2 .ensures ∙ ap (deepened _ _) e)
+    let at-deepen = c .before .before .before .before .before .before in
+    let at-if1 = at-deepen .before .before in
+    let e = depth-bracket _ _ (at-if1 .if1 .left) in
+    (at-deepen .deepen .ensures ∙ ap (deepened _ _) e, c .before .before .deepen2 .ensures ∙ ap (deepened _ _) e)
 
 pub enter-spec : {M : Type 1} → statement M
 enter-spec =
     tie.close
-    (tie.spec returns deepen-requires deepen-requires-2 same-length same-length-2 returns-2)
+    (tie.spec returns deepen-requires deepen-requires-2 (λ c. search needs) (λ c. search needs) returns-2)

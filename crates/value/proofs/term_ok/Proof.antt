@@ -5,14 +5,8 @@ use Rattle.value.specs.CheckLaws.{term-symbol, term-bracket, term-unknow
 use Rattle.value.proofs.term_ok.Statement.{statement}
 use Rattle.value.proofs.term_ok.Tie as tie
 
-symbol-ok-requires : tie.Need-symbol-ok-requires
-symbol-ok-requires c κs = search needs
-
 returns : tie.Need-returns
 returns c = c .symbol-ok .ensures ∙ term-symbol _ _ _ (c .before .if1 .taken)
-
-bracket-ok-requires : tie.Need-bracket-ok-requires
-bracket-ok-requires c κs = search needs
 
 returns-2 : tie.Need-returns-2
 returns-2 c = c .bracket-ok .ensures ∙ term-bracket _ _ _ (c .before .if2 .taken)
@@ -26,4 +20,4 @@ returns-4 c = term-none _ _ _ (search needs)
 pub term-ok-spec : {M : Type 1} → statement M
 term-ok-spec =
     tie.close
-    (tie.spec symbol-ok-requires returns bracket-ok-requires returns-2 returns-3 returns-4)
+    (tie.spec (λ c κs. search needs) returns (λ c κs. search needs) returns-2 returns-3 returns-4)

@@ -1,4 +1,4 @@
--- `chained`: no terms, 12, or the nodes that `chain_makes` counts and `chain_build` makes.
+-- `chained`: no terms, 12, or the nodes that `from_runs_makes` counts and `from_runs_build` makes.
 use mathlib.Core.Path.{sym, _∙_}
 use borrow.Author.Needs.{needs}
 use borrow.Author.Tests.{not-true, not-false}
@@ -11,44 +11,52 @@ use Rattle.view.proofs.chained.Tie as tie
 
 returns : tie.Need-returns
 unfolding answerOf
-returns c = chained-none _ _ _ (c .before .before .before .pre .0 .0) (c .if1 .taken) (c .before .before .before .pre .1 .1)
-
-chain-makes-requires : tie.Need-chain-makes-requires
-chain-makes-requires c κs = search needs
-
-node-room-requires : tie.Need-node-room-requires
-node-room-requires c κs = search needs
-
-same-length : tie.Need-same-length
-same-length c = search needs
+returns c = let start = c .before .before .before in chained-none _ _ _ (start .pre .0 .store) (c .if1 .taken) (start .pre .1)
 
 returns-2 : tie.Need-returns-2
 unfolding answerOf
-returns-2 c = chained-full _ _ _ (c .before .before .before .chain-makes .ensures) (sym (c .before .node-room .ensures) ∙ not-true _ (c .if2 .taken))
+returns-2 c =
+    let at-room = c .before in
+    let counted = at-room .before .before in
+    chained-full _ _ _ (counted .from-runs-makes .ensures) (sym (at-room .node-room .ensures) ∙ not-true _ (c .if2 .taken))
 
-chain-build-requires : tie.Need-chain-build-requires
-chain-build-requires c κs = let fits = room-fits _ _ _ (sym (c .before .before .node-room .ensures) ∙ not-false _ (c .before .if2 .left)) in (c .before .before .before .before .before .before .before .before .before .pre .0, (c .before .before .before .before .before .before .before .before .before .pre .1 .0, rw (← c .before .before .before .before .chain-makes .ensures) fits))
+from-runs-build-requires : tie.Need-from-runs-build-requires
+from-runs-build-requires c κs =
+    let has-room = c .before in
+    let at-room = has-room .before in
+    let counted = at-room .before .before in
+    let start = counted .before .before .before .before .before in
+    let fits = room-fits _ _ _ (sym (at-room .node-room .ensures) ∙ not-false _ (has-room .if2 .left)) in
+    record { over = start .pre .0; few = rw (← counted .from-runs-makes .ensures) (fits .0); room = rw (← counted .from-runs-makes .ensures) (fits .1) }
 
 add-count : tie.Need-add-count
-add-count c = let (a, b) = room-fits _ _ _ (sym (c .before .before .before .before .before .node-room .ensures) ∙ not-false _ (c .before .before .before .before .if2 .left)) in omega (arith, a)
-
-same-length-2 : tie.Need-same-length-2
-same-length-2 c = search needs
+add-count c =
+    let has-room = c .before .before .before .before in
+    let fits = room-fits _ _ _ (sym (has-room .before .node-room .ensures) ∙ not-false _ (has-room .if2 .left)) in
+    omega (arith, fits .0)
 
 returns-3 : tie.Need-returns-3
 unfolding answerOf
-returns-3 c = chained-done _ _ _ (c .before .before .before .before .before .before .before .chain-makes .ensures) (sym (c .before .before .before .before .before .node-room .ensures) ∙ not-false _ (c .before .before .before .before .if2 .left)) (c .before .before .chain-build .ensures .0) (c .before .before .before .before .before .before .before .before .before .before .before .before .pre .1 .1) (c .before .before .chain-build .ensures .1)
+returns-3 c =
+    let built = c .before .before .before in
+    let has-room = built .before .before in
+    let at-room = has-room .before in
+    let counted = at-room .before .before in
+    let start = counted .before .before .before .before .before in
+    chained-done _ _ _ (counted .from-runs-makes .ensures) (sym (at-room .node-room .ensures) ∙ not-false _ (has-room .if2 .left)) (c .new .ensures)
+    (built .from-runs-build .ensures .0) (start .pre .1) (built .from-runs-build .ensures .1)
 
 pub chained-spec : {M : Type 1} → statement M
 chained-spec =
     tie.close
     (tie.spec
     returns
-    chain-makes-requires
-    node-room-requires
-    same-length
+    (λ c κs. search needs)
+    (λ c κs. search needs)
+    (λ c. search needs)
     returns-2
-    chain-build-requires
+    from-runs-build-requires
     add-count
-    same-length-2
+    (λ c κs. search needs)
+    (λ c. search needs)
     returns-3)

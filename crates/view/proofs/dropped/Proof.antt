@@ -1,4 +1,4 @@
--- `dropped`: the nodes that `rest_makes` counts are those that `rest_build` makes; 12 where they do not fit.
+-- `dropped`: the nodes that `drop_front_makes` counts are those that `drop_front_build` makes; 12 where they do not fit.
 use mathlib.Core.Path.{sym, _∙_}
 use borrow.Author.Needs.{needs}
 use borrow.Author.Tests.{not-true, not-false}
@@ -8,52 +8,68 @@ use Rattle.view.specs.GrowLaws.{room-fits, count-after, grown-full, rest
 use Rattle.view.proofs.dropped.Statement.{statement}
 use Rattle.view.proofs.dropped.Tie as tie
 
-rest-makes-requires : tie.Need-rest-makes-requires
-rest-makes-requires c κs = search needs
-
-node-room-requires : tie.Need-node-room-requires
-node-room-requires c κs = search needs
-
-same-length : tie.Need-same-length
-same-length c = search needs
+drop-front-makes-requires : tie.Need-drop-front-makes-requires
+drop-front-makes-requires c κs =
+    let start = c .before .before .before in
+    let reaches = start .pre .1 .0 in
+    (start .pre .0, record { low = reaches .low; fits = omega (arith, reaches .fits, start .pre .1 .1) })
 
 returns : tie.Need-returns
 unfolding answerOf
-returns c = grown-full _ _ _ _ (rest-length _ _ _ _ (c .before .before .before .rest-makes .ensures)) (sym (c .before .node-room .ensures) ∙ not-true _ (c .if1 .taken))
+returns c =
+    let at-room = c .before in
+    let counted = at-room .before .before in
+    grown-full _ _ _ _ (rest-length _ _ _ _ (counted .drop-front-makes .ensures)) (sym (at-room .node-room .ensures) ∙ not-true _ (c .if1 .taken))
 
-add-rest-build : tie.Need-add-rest-build
-add-rest-build c = let (a, b) = room-fits _ _ _ (sym (c .before .before .node-room .ensures) ∙ not-false _ (c .before .if1 .left)) in omega (arith, a)
+add-drop-front-build : tie.Need-add-drop-front-build
+add-drop-front-build c =
+    let has-room = c .before in
+    let fits = room-fits _ _ _ (sym (has-room .before .node-room .ensures) ∙ not-false _ (has-room .if1 .left)) in
+    omega (arith, fits .0)
 
-rest-build-requires : tie.Need-rest-build-requires
-rest-build-requires c κs =
-    let fits = room-fits _ _ _ (sym (c .before .before .node-room .ensures) ∙ not-false _ (c .before .if1 .left)) in
-    (search needs, (search needs, (count-after _ (c .before .before .before .before .rest-makes .ensures), fits .0, fits .1)))
+drop-front-build-requires : tie.Need-drop-front-build-requires
+drop-front-build-requires c κs =
+    let has-room = c .before in
+    let at-room = has-room .before in
+    let counted = at-room .before .before in
+    let start = counted .before .before .before .before in
+    let reaches = start .pre .1 .0 in
+    let fits = room-fits _ _ _ (sym (at-room .node-room .ensures) ∙ not-false _ (has-room .if1 .left)) in (
+      start .pre .0,
+      (
+        record { low = reaches .low; fits = omega (arith, reaches .fits, start .pre .1 .1) },
+        record { made = count-after _ (counted .drop-front-makes .ensures); few = fits .0; room = fits .1 },
+      ),
+    )
 
 add-count : tie.Need-add-count
-add-count c = let (a, b) = room-fits _ _ _ (sym (c .before .before .before .before .before .node-room .ensures) ∙ not-false _ (c .before .before .before .before .if1 .left)) in omega (arith, a)
-
-sub-t17 : tie.Need-sub-t17
-sub-t17 c = search needs
-
-same-length-2 : tie.Need-same-length-2
-same-length-2 c = search needs
+add-count c =
+    let has-room = c .before .before .before .before in
+    let fits = room-fits _ _ _ (sym (has-room .before .node-room .ensures) ∙ not-false _ (has-room .if1 .left)) in
+    omega (arith, fits .0)
 
 returns-2 : tie.Need-returns-2
 unfolding answerOf
 returns-2 c =
-    rest-grown _ _ _ _ (c .before .before .before .before .before .before .before .before .rest-makes .ensures) (sym (c .before .before .before .before .before .before .node-room .ensures) ∙ not-false _ (c .before .before .before .before .before .if1 .left)) (c .before .before .before .rest-build .ensures .0) (c .before .before .before .rest-build .ensures .1)
+    let built = c .before .before .before .before in
+    let has-room = built .before .before in
+    let at-room = has-room .before in
+    let counted = at-room .before .before in
+    rest-grown _ _ _ _ (counted .drop-front-makes .ensures) (sym (at-room .node-room .ensures) ∙ not-false _ (has-room .if1 .left)) (c .new .ensures)
+    (built .drop-front-build .ensures .0) (built .drop-front-build .ensures .1)
 
 pub dropped-spec : {M : Type 1} → statement M
 dropped-spec =
     tie.close
     (tie.spec
-    rest-makes-requires
-    node-room-requires
-    same-length
+    drop-front-makes-requires
+    (λ c κs. search needs)
+    (λ c. search needs)
     returns
-    add-rest-build
-    rest-build-requires
+    add-drop-front-build
+    drop-front-build-requires
     add-count
-    sub-t17
-    same-length-2
+    (λ c. search needs)
+    (λ c κs. search needs)
+    (λ c. search needs)
     returns-2)

@@ -8,62 +8,80 @@ use Rattle.view.specs.StepLaws.{runs-refused, runs-past, runs-long, runs
 use Rattle.view.proofs.from_runs.Statement.{statement}
 use Rattle.view.proofs.from_runs.Tie as tie
 
-runs-even-requires : tie.Need-runs-even-requires
-runs-even-requires c κs = search needs
-
-check-requires : tie.Need-check-requires
-check-requires c κs = search needs
-
-same-length : tie.Need-same-length
-same-length c = search needs
-
 returns : tie.Need-returns
 unfolding answerOf
-returns c = runs-refused _ _ (c .before .before .runs-even .ensures) (c .before .check .ensures) (c .if1 .taken)
-
-runs-inside-requires : tie.Need-runs-inside-requires
-runs-inside-requires c κs = search needs
-
-same-length-2 : tie.Need-same-length-2
-same-length-2 c = search needs
+returns c = let checked = c .before in runs-refused _ _ (checked .before .runs-even .ensures) (checked .check .ensures) (c .if1 .taken)
 
 returns-2 : tie.Need-returns-2
 unfolding answerOf
-returns-2 c = runs-past _ _ (c .before .before .before .before .runs-even .ensures) (c .before .before .before .check .ensures) (c .before .before .if1 .left) (sym (c .before .runs-inside .ensures) ∙ not-true _ (c .if2 .taken))
+returns-2 c =
+    let at-inside = c .before in
+    let passed = at-inside .before in
+    let checked = passed .before in
+    runs-past _ _ (checked .before .runs-even .ensures) (checked .check .ensures) (passed .if1 .left) (sym (at-inside .runs-inside .ensures) ∙ not-true _ (c .if2 .taken))
 
 runs-total-requires : tie.Need-runs-total-requires
-runs-total-requires c κs = let p = runs-passed _ _ (c .before .before .before .before .runs-even .ensures) (c .before .before .before .check .ensures) (c .before .before .if1 .left) in ((p .terms, runs-few _ _ (c .before .before .before .before .runs-even .ensures) (c .before .before .before .check .ensures) (c .before .before .if1 .left)), true-T _ (sym (c .before .runs-inside .ensures) ∙ not-false _ (c .if2 .left)))
-
-same-length-3 : tie.Need-same-length-3
-same-length-3 c = search needs
+runs-total-requires c κs =
+    let at-inside = c .before in
+    let passed = at-inside .before in
+    let checked = passed .before in
+    let even = checked .before .runs-even .ensures in
+    let p = runs-passed _ _ even (checked .check .ensures) (passed .if1 .left) in (
+      record { terms = _; few-terms = p .terms; rule = true-T _ (sym (at-inside .runs-inside .ensures) ∙ not-false _ (c .if2 .left)) },
+      runs-few _ _ even (checked .check .ensures) (passed .if1 .left),
+    )
 
 returns-3 : tie.Need-returns-3
 unfolding answerOf
-returns-3 c = runs-long _ _ (c .before .before .before .before .before .before .runs-even .ensures) (c .before .before .before .before .before .check .ensures) (c .before .before .before .before .if1 .left) (sym (c .before .before .before .runs-inside .ensures) ∙ not-false _ (c .before .before .if2 .left)) (c .before .runs-total .ensures) (c .if3 .taken)
+returns-3 c =
+    let at-total = c .before in
+    let inside = at-total .before in
+    let at-inside = inside .before in
+    let passed = at-inside .before in
+    let checked = passed .before in
+    runs-long _ _ (checked .before .runs-even .ensures) (checked .check .ensures) (passed .if1 .left)
+    (sym (at-inside .runs-inside .ensures) ∙ not-false _ (inside .if2 .left)) (at-total .runs-total .ensures) (c .if3 .taken)
 
 chained-requires : tie.Need-chained-requires
-chained-requires c κs = let p = runs-passed _ _ (c .before .before .before .before .before .before .before .before .runs-even .ensures) (c .before .before .before .before .before .before .before .check .ensures) (c .before .before .before .before .before .before .if1 .left) in ((p .store, p .terms), (true-T _ (sym (c .before .before .before .before .before .runs-inside .ensures) ∙ not-false _ (c .before .before .before .before .if2 .left)), c .before .before .before .runs-total .ensures))
-
-same-length-4 : tie.Need-same-length-4
-same-length-4 c = search needs
+chained-requires c κs =
+    let at-total = c .before .before .before in
+    let inside = at-total .before in
+    let at-inside = inside .before in
+    let passed = at-inside .before in
+    let checked = passed .before in
+    let p = runs-passed _ _ (checked .before .runs-even .ensures) (checked .check .ensures) (passed .if1 .left) in (
+      record {
+        inside = record { terms = _; few-terms = p .terms; rule = true-T _ (sym (at-inside .runs-inside .ensures) ∙ not-false _ (inside .if2 .left)) };
+        store = p .store;
+      },
+      at-total .runs-total .ensures,
+    )
 
 returns-4 : tie.Need-returns-4
-returns-4 c = runs-fit _ _ (c .before .before .before .before .before .before .before .before .before .before .before .runs-even .ensures) (c .before .before .before .before .before .before .before .before .before .before .check .ensures) (c .before .before .before .before .before .before .before .before .before .if1 .left) (sym (c .before .before .before .before .before .before .before .before .runs-inside .ensures) ∙ not-false _ (c .before .before .before .before .before .before .before .if2 .left)) (c .before .before .before .before .before .before .runs-total .ensures) (search needs) (c .before .before .chained .ensures)
+returns-4 c =
+    let done = c .before .before in
+    let at-total = done .before .before .before .before in
+    let inside = at-total .before in
+    let at-inside = inside .before in
+    let passed = at-inside .before in
+    let checked = passed .before in
+    runs-fit _ _ (checked .before .runs-even .ensures) (checked .check .ensures) (passed .if1 .left)
+    (sym (at-inside .runs-inside .ensures) ∙ not-false _ (inside .if2 .left)) (at-total .runs-total .ensures) (search needs) (done .chained .ensures)
 
 pub from-runs-spec : {M : Type 1} → statement M
 from-runs-spec =
     tie.close
     (tie.spec
-    runs-even-requires
-    check-requires
-    same-length
+    (λ c κs. search needs)
+    (λ c κs. search needs)
+    (λ c. search needs)
     returns
-    runs-inside-requires
-    same-length-2
+    (λ c κs. search needs)
+    (λ c. search needs)
     returns-2
     runs-total-requires
-    same-length-3
+    (λ c. search needs)
     returns-3
     chained-requires
-    same-length-4
+    (λ c. search needs)
     returns-4)

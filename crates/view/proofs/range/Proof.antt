@@ -3,78 +3,62 @@ use mathlib.Core.Path.{ap}
 use borrow.Author.Needs.{needs}
 use Rattle.view.specs.Check.{answerOf}
 use Rattle.view.specs.GrowLaws.{range-built, range-full}
-use Rattle.view.specs.StepLaws.{usable, range-refused, range-past, range-fits}
+use Rattle.view.specs.StepLaws.{usable, any-nodes, reaches, range-refused, range-past, range-fits}
 use Rattle.view.proofs.range.Statement.{statement}
 use Rattle.view.proofs.range.Tie as tie
-
-check-requires : tie.Need-check-requires
-check-requires c κs = search needs
-
-same-length : tie.Need-same-length
-same-length c = search needs
 
 returns : tie.Need-returns
 unfolding answerOf
 returns c = range-refused _ _ _ _ (c .before .check .ensures) (c .if1 .taken)
 
-same-length-2 : tie.Need-same-length-2
-same-length-2 c = search needs
-
 returns-2 : tie.Need-returns-2
 unfolding answerOf
-returns-2 c = range-past _ _ _ _ (c .before .before .before .check .ensures) (c .before .before .if1 .left) (search needs)
-
-same-length-3 : tie.Need-same-length-3
-same-length-3 c = search needs
+returns-2 c = let passed = c .before .before in range-past _ _ _ _ (passed .before .check .ensures) (passed .if1 .left) (search needs)
 
 returns-3 : tie.Need-returns-3
 unfolding answerOf
-returns-3 c = range-past _ _ _ _ (c .before .before .before .before .before .check .ensures) (c .before .before .before .before .if1 .left) (search needs)
+returns-3 c = let passed = c .before .before .before .before in range-past _ _ _ _ (passed .before .check .ensures) (passed .if1 .left) (search needs)
 
 dropped-requires : tie.Need-dropped-requires
-dropped-requires c κs = let u = usable _ _ _ (c .before .before .before .before .before .before .before .check .ensures) (c .before .before .before .before .before .before .if1 .left) in ((u .store, u .terms), (u .low, u .within, search needs))
-
-enum-known-g : tie.Need-enum-known-g
-enum-known-g c = search needs
-
-clamped-requires : tie.Need-clamped-requires
-clamped-requires c κs = search needs
-
-enum-known-m : tie.Need-enum-known-m
-enum-known-m c = search needs
-
-same-length-4 : tie.Need-same-length-4
-same-length-4 c = search needs
+dropped-requires c κs =
+    let passed = c .before .before .before .before .before .before in
+    let u = usable _ _ _ (passed .before .check .ensures) (passed .if1 .left) in
+    (any-nodes u, (reaches u, search needs))
 
 returns-4 : tie.Need-returns-4
 unfolding answerOf
 returns-4 c =
-    range-fits _ _ _ _ (c .before .before .before .before .before .before .before .before .before .before .before .before .before .before .check .ensures) (c .before .before .before .before .before .before .before .before .before .before .before .before .before .if1 .left) (search needs) (range-built _ _ _ _ _ _ (c .before .before .before .before .before .before .dropped .ensures) (ap answerOf (c .before .before .g .given .1)) (c .clamped .ensures))
-
-same-length-5 : tie.Need-same-length-5
-same-length-5 c = search needs
+    let found = c .before .before in
+    let done = found .before .before .before .before in
+    let passed = done .before .before .before .before .before .before .before in
+    let built = range-built _ _ _ _ _ _ (done .dropped .ensures) (ap answerOf (found .g .given .1)) (search needs) (c .clamped .ensures) in
+    range-fits _ _ _ _ (passed .before .check .ensures) (passed .if1 .left) (search needs) built
 
 returns-5 : tie.Need-returns-5
 unfolding answerOf
 returns-5 c =
-    range-fits _ _ _ _ (c .before .before .before .before .before .before .before .before .before .before .before .before .before .check .ensures) (c .before .before .before .before .before .before .before .before .before .before .before .before .if1 .left) (search needs) (range-full _ _ _ _ _ _ (c .before .before .before .before .before .dropped .ensures) (ap answerOf (c .before .m .given .1)))
+    let found = c .before in
+    let done = found .before .before .before .before in
+    let passed = done .before .before .before .before .before .before .before in
+    let full = range-full _ _ _ _ _ _ (done .dropped .ensures) (ap answerOf (found .m .given .1)) in
+    range-fits _ _ _ _ (passed .before .check .ensures) (passed .if1 .left) (search needs) full
 
 pub range-spec : {M : Type 1} → statement M
 range-spec =
     tie.close
     (tie.spec
-    check-requires
-    same-length
+    (λ c κs. search needs)
+    (λ c. search needs)
     returns
-    same-length-2
+    (λ c. search needs)
     returns-2
-    same-length-3
+    (λ c. search needs)
     returns-3
     dropped-requires
-    enum-known-g
-    clamped-requires
-    enum-known-m
-    same-length-4
+    (λ c. search needs)
+    (λ c κs. search needs)
+    (λ c. search needs)
+    (λ c. search needs)
     returns-4
-    same-length-5
+    (λ c. search needs)
     returns-5)

@@ -2,14 +2,11 @@
 use borrow.Author.Needs.{needs}
 use native.Mathlib.Omega.{arith}
 use mathlib.Core.Path.{sym, _∙_}
-use Rattle.view.specs.StepLaws.{usable-both}
+use Rattle.view.specs.StepLaws.{usable-both, reaches}
 use Rattle.view_read.specs.Read.{verdictOf}
 use Rattle.view_read.specs.CompareLaws.{equal-refused, equal-uneven, equal-by}
 use Rattle.view_read.proofs.equal.Statement.{statement}
 use Rattle.view_read.proofs.equal.Tie as tie
-
-check-requires : tie.Need-check-requires
-check-requires c κs = search needs
 
 returns : tie.Need-returns
 unfolding verdictOf
@@ -17,21 +14,28 @@ returns c = equal-refused _ _ _ (c .before .check .ensures) (c .if1 .taken)
 
 returns-2 : tie.Need-returns-2
 unfolding verdictOf
-returns-2 c = equal-uneven _ _ _ (c .before .before .before .before .check .ensures) (c .before .before .before .if1 .left) (λ q. omega (arith, q))
+returns-2 c = let passed = c .before .before .before in equal-uneven _ _ _ (passed .before .check .ensures) (passed .if1 .left) (λ q. omega (arith, q))
 
 equal-fronts-requires : tie.Need-equal-fronts-requires
 equal-fronts-requires c κs =
-    let (u, v) = usable-both _ _ _ (c .before .before .before .before .check .ensures) (c .before .before .before .if1 .left) in
-    ((u .values, u .store, u .terms), ((u .low, omega (arith, u .within)), (v .low, v .within)))
+    let passed = c .before .before .before in
+    let (u, v) = usable-both _ _ _ (passed .before .check .ensures) (passed .if1 .left) in
+    ((u .values, u .terms), (u .store, (record { low = u .low; fits = omega (arith, u .within) }, reaches v)))
 
 returns-3 : tie.Need-returns-3
 unfolding verdictOf
-returns-3 c = equal-by _ _ _ (c .before .before .before .before .before .before .check .ensures) (c .before .before .before .before .before .if1 .left) (search needs) (sym (c .if3 .taken) ∙ c .before .equal-fronts .ensures)
+returns-3 c =
+    let compared = c .before in
+    let passed = compared .before .before .before .before in
+    equal-by _ _ _ (passed .before .check .ensures) (passed .if1 .left) (search needs) (sym (c .if3 .taken) ∙ compared .equal-fronts .ensures)
 
 returns-4 : tie.Need-returns-4
 unfolding verdictOf
-returns-4 c = equal-by _ _ _ (c .before .before .before .before .before .before .check .ensures) (c .before .before .before .before .before .if1 .left) (search needs) (sym (c .if3 .left) ∙ c .before .equal-fronts .ensures)
+returns-4 c =
+    let compared = c .before in
+    let passed = compared .before .before .before .before in
+    equal-by _ _ _ (passed .before .check .ensures) (passed .if1 .left) (search needs) (sym (c .if3 .left) ∙ compared .equal-fronts .ensures)
 
 pub equal-spec : {M : Type 1} → statement M
 equal-spec =
-    tie.close (tie.spec check-requires returns returns-2 equal-fronts-requires returns-3 returns-4)
+    tie.close (tie.spec (λ c κs. search needs) returns returns-2 equal-fronts-requires returns-3 returns-4)

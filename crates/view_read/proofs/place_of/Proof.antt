@@ -9,20 +9,31 @@ returns : tie.Need-returns
 unfolding placeOf
 returns c = place-empty _ _ _ (c .if1 .taken)
 
-get-node-requires : tie.Need-get-node-requires
-get-node-requires c κs = search needs
-
 returns-2 : tie.Need-returns-2
 unfolding placeOf
-returns-2 c = place-other _ _ _ (c .before .before .get-node .ensures) (c .before .before .before .before .before .before .pre .1) (c .before .before .before .if1 .left) (c .if2 .taken)
+returns-2 c =
+    let read = c .before .before in
+    let some-terms = read .before in
+    let start = some-terms .before .before .before in
+    place-other _ _ _ (read .get-node .ensures) (start .pre .1) (some-terms .if1 .left) (c .if2 .taken)
 
 returns-3 : tie.Need-returns-3
 unfolding placeOf
-returns-3 c = place-longer _ _ _ (c .before .before .before .before .get-node .ensures) (c .before .before .before .before .before .before .before .before .pre .1) (c .before .before .before .before .before .if1 .left) (c .before .before .if2 .left) (c .if3 .taken)
+returns-3 c =
+    let cons = c .before .before in
+    let read = cons .before .before in
+    let some-terms = read .before in
+    let start = some-terms .before .before .before in
+    place-longer _ _ _ (read .get-node .ensures) (start .pre .1) (some-terms .if1 .left) (cons .if2 .left) (c .if3 .taken)
 
 returns-4 : tie.Need-returns-4
 unfolding placeOf
-returns-4 c = place-one _ _ _ (c .before .before .before .before .get-node .ensures) (c .before .before .before .before .before .before .before .before .pre .1) (c .before .before .before .before .before .if1 .left) (c .before .before .if2 .left) (c .if3 .left)
+returns-4 c =
+    let cons = c .before .before in
+    let read = cons .before .before in
+    let some-terms = read .before in
+    let start = some-terms .before .before .before in
+    place-one _ _ _ (read .get-node .ensures) (start .pre .1) (some-terms .if1 .left) (cons .if2 .left) (c .if3 .left)
 
 pub place-of-spec : {M : Type 1} → statement M
-place-of-spec = tie.close (tie.spec returns get-node-requires returns-2 returns-3 returns-4)
+place-of-spec = tie.close (tie.spec returns (λ c κs. search needs) returns-2 returns-3 returns-4)

@@ -1,63 +1,30 @@
 -- `words::get_node`: six words read one by one are the record.
 use borrow.Author.Needs.{needs}
-use Rattle.words.specs.RecordLaws.{node-read}
+use mathlib.Core.Path.{refl}
+use Rattle.view_spec.specs.Node.{nodeOf, nodeLayout}
+use Rattle.words.specs.RecordLaws.{record-read}
 use Rattle.words.proofs.get_node.Statement.{statement}
 use Rattle.words.proofs.get_node.Tie as tie
 
-mul-p : tie.Need-mul-p
-mul-p c = search needs
-
-word-requires : tie.Need-word-requires
-word-requires c κs = search needs
-
-add-word : tie.Need-add-word
-add-word c = search needs
-
-word-requires-2 : tie.Need-word-requires-2
-word-requires-2 c κs = search needs
-
-add-word-2 : tie.Need-add-word-2
-add-word-2 c = search needs
-
-word-requires-3 : tie.Need-word-requires-3
-word-requires-3 c κs = search needs
-
-add-word-3 : tie.Need-add-word-3
-add-word-3 c = search needs
-
-word-requires-4 : tie.Need-word-requires-4
-word-requires-4 c κs = search needs
-
-add-word-4 : tie.Need-add-word-4
-add-word-4 c = search needs
-
-word-requires-5 : tie.Need-word-requires-5
-word-requires-5 c κs = search needs
-
-add-word-5 : tie.Need-add-word-5
-add-word-5 c = search needs
-
-word-requires-6 : tie.Need-word-requires-6
-word-requires-6 c κs = search needs
-
 returns : tie.Need-returns
-returns c = node-read _ _ (c .before .before .before .before .before .word .ensures) (c .before .before .before .before .word2 .ensures)
-    (c .before .before .before .word3 .ensures) (c .before .before .word4 .ensures) (c .before .word5 .ensures) (c .word6 .ensures)
+unfolding nodeOf
+returns c =
+    let at-start = c .before .before .before .before .before .before .before in cc (record-read nodeLayout (λ l. refl) (at-start .args .nodes .now) (at-start .args .i))
 
 pub get-node-spec : {M : Type 1} → statement M
 get-node-spec =
     tie.close
     (tie.spec
-    mul-p
-    word-requires
-    add-word
-    word-requires-2
-    add-word-2
-    word-requires-3
-    add-word-3
-    word-requires-4
-    add-word-4
-    word-requires-5
-    add-word-5
-    word-requires-6
+    (λ c. search needs)
+    (λ c κs. search needs)
+    (λ c. search needs)
+    (λ c κs. search needs)
+    (λ c. search needs)
+    (λ c κs. search needs)
+    (λ c. search needs)
+    (λ c κs. search needs)
+    (λ c. search needs)
+    (λ c κs. search needs)
+    (λ c. search needs)
+    (λ c κs. search needs)
     returns)

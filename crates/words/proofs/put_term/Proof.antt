@@ -1,52 +1,28 @@
 -- `words::put_term`: four words set one by one are the record written.
 use borrow.Author.Needs.{needs}
-use Rattle.words.specs.RecordLaws.{term-written}
-use denote.Ref.{now}
+use Rattle.term_spec.specs.WordsLaws.{term-lays}
+use Rattle.term_spec.specs.Term.{termLayout}
+use Rattle.words.specs.Records.{asTerm}
+use Rattle.words.specs.RecordLaws.{record-written}
 use Rattle.words.proofs.put_term.Statement.{statement}
 use Rattle.words.proofs.put_term.Tie as tie
 
-mul-p : tie.Need-mul-p
-mul-p c = search needs
-
-set-word-requires : tie.Need-set-word-requires
-set-word-requires c κs = search needs
-
-add-set-word : tie.Need-add-set-word
-add-set-word c = search needs
-
-set-word-requires-2 : tie.Need-set-word-requires-2
-set-word-requires-2 c κs = search needs
-
-add-set-word-2 : tie.Need-add-set-word-2
-add-set-word-2 c = search needs
-
-set-word-requires-3 : tie.Need-set-word-requires-3
-set-word-requires-3 c κs = search needs
-
-add-set-word-3 : tie.Need-add-set-word-3
-add-set-word-3 c = search needs
-
-set-word-requires-4 : tie.Need-set-word-requires-4
-set-word-requires-4 c κs = search needs
-
-same-length : tie.Need-same-length
-same-length c = search needs
-
 returns : tie.Need-returns
-returns c = cc (term-written (now (c .before .before .before .before .before .before .before .before .before .before .before .before .before .before .before .before .before .args .terms))
-    (c .before .before .before .before .before .before .before .before .before .before .before .before .before .before .before .before .before .args .i) _ _ _ _ (search needs))
+returns c =
+    let at-start = c .before .before .before .before .before .before .before .before .before .before .before .before .before .before .before .before .before in
+    cc (record-written termLayout term-lays (at-start .args .terms .now) (at-start .args .i) (asTerm (at-start .args .t)) (search needs))
 
 pub put-term-spec : {M : Type 1} → statement M
 put-term-spec =
     tie.close
     (tie.spec
-    mul-p
-    set-word-requires
-    add-set-word
-    set-word-requires-2
-    add-set-word-2
-    set-word-requires-3
-    add-set-word-3
-    set-word-requires-4
-    same-length
+    (λ c. search needs)
+    (λ c κs. search needs)
+    (λ c. search needs)
+    (λ c κs. search needs)
+    (λ c. search needs)
+    (λ c κs. search needs)
+    (λ c. search needs)
+    (λ c κs. search needs)
+    (λ c. search needs)
     returns)

@@ -137,7 +137,7 @@ fn main() -> ExitCode {
         return ExitCode::from(2);
     };
     if let Some(listings) = options.replay {
-        replay::write(&mut Random::new(options.seed), listings);
+        replay::write(options.seed, listings);
         return ExitCode::SUCCESS;
     }
     let started = Instant::now();

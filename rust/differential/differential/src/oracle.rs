@@ -131,7 +131,7 @@ fn flattened(store: &Store, call: &Call, f: Field, work: &[u32]) -> Result<Outco
     let nodes = nodes_of(store, true);
     let field = nodes.field(f.node, f.len);
     let mut lent = work.to_vec();
-    let told = match field.flatten() {
+    let answered = match field.flatten() {
         Flat::Borrowed([]) => vec![0, 0, 0],
         Flat::Borrowed(terms) => vec![0, nodes.start_of(terms), terms.len()],
         Flat::Owned(copy) => {
@@ -148,7 +148,7 @@ fn flattened(store: &Store, call: &Call, f: Field, work: &[u32]) -> Result<Outco
             vec![1, 0, copy.len()]
         }
     };
-    Ok(Outcome { answer: 0, values: told, store: store.clone(), lent })
+    Ok(Outcome { answer: 0, values: answered, store: store.clone(), lent })
 }
 
 /// Copies terms, by number, to a place in other words.

@@ -1,21 +1,6 @@
-//! Recorded cases for the program `replay`: calls with the original's answers, as lines of decimal numbers.
+//! Recorded cases for the program `cases`: calls with the original's answers, as lines of `docs/CASES.md`.
 //!
-//! The first number of a line says what it is; a bar stands here between arguments and what the original answers:
-//!
-//!     0 n b1 .. bn                              the names, for all that follows
-//!     1 n t1 .. t4n                             a new term store, and node 0 alone
-//!     2 r s1 l1 .. sr lr | node len k w1 .. w6k from_runs; k nodes are made, their words follow
-//!     3 n1 l1 n2 l2 | node len k w1 .. w6k      join
-//!     4 n l c | node len k w1 .. w6k            rest
-//!     5 n l s c | node len k w1 .. w6k          range
-//!     6 n1 l1 n2 l2 | yes                       equality
-//!     7 n1 l1 n2 l2 | yes                       starts_with
-//!     8 first n l p w1 .. w4p b v1 .. v5b s | answer copied count entries x1 .. xj
-//!                                               listing, or first match, with s words of slots; x are the candidates, start and length of
-//!                                               each entry, j = 2 * count * entries; count and entries are 0 for 10 and 11
-//!     9 calls candidates                        the end: how many lines 2 to 8 there were, and how many candidates
-//!
-//! Nodes stay from call to call until the next line 1. A listing's settled copy (`copied` terms) is not kept: each starts with n used terms.
+//! Nodes stay from call to call until the next store. A listing's settled copy is dropped after it: each starts with the store's own terms.
 use crate::generate;
 use crate::oracle;
 use crate::port::{Call, EMPTY, Field, Outcome, Request, Store};
@@ -29,35 +14,76 @@ const NODES: usize = 64;
 const RECORDS: usize = 24;
 const SLOTS: usize = 128;
 
+/// What stands at the top of the list, after the line that says how it was recorded.
+const HEAD: &str = "# from_runs, join, rest, range, equal and starts_with on stores of up to 14 terms, and listings and first matches on the fields so made.
+# What a listing copies to settle its field is dropped after it.";
+
+/// The words for the kinds of each record.
+const TERM: &[&str] = &["char", "ident", "number", "bracket", "unknown"];
+const NODE: &[&str] = &["nil", "cons", "concat"];
+const ITEM: &[&str] = &["char", "ident", "number", "open", "close", "s", "t", "e", "call", "block"];
+
 /// Prints so many listings, with the calls that make their fields.
-pub fn write(random: &mut Random, listings: usize) {
-    line(&[0, generate::NAMES.len()], generate::NAMES.iter().map(|b| usize::from(*b)));
-    let (mut calls, mut candidates, mut left) = (0, 0, listings);
+pub fn write(seed: u64, listings: usize) {
+    let random = &mut Random::new(seed);
+    println!(
+        "# The Rust original's answers (matcher.rs and value.rs, compiled unchanged), recorded by tools/differential --write-replay {listings} {seed}:"
+    );
+    println!("{HEAD}\nset names \"{}\"", String::from_utf8_lossy(generate::NAMES));
+    let mut left = listings;
     while left > 0 {
         let used = 1 + random.below(TERMS);
         let mut store = generate::store(random, used, LENT - used, NODES - 1);
-        line(&[1, used], store.terms[..4 * used].iter().map(|w| *w as usize));
+        println!("set terms{} lend terms {} set nodes nil lend nodes {}", records(TERM, 4, &store.terms[..4 * used]), 4 * LENT, 6 * NODES);
         let mut fields = vec![EMPTY];
         for _ in 0..8 {
-            calls += usize::from(build(random, &mut store, &mut fields));
-            calls += compare(random, &store, &fields);
+            build(random, &mut store, &mut fields);
+            compare(random, &store, &fields);
         }
         for _ in 0..left.min(12) {
-            if let Some(found) = list(random, &store, &fields) {
-                (calls, candidates, left) = (calls + 1, candidates + found, left - 1);
+            left -= usize::from(list(random, &store, &fields));
+        }
+    }
+}
+
+/// Numbers, a space before each.
+fn numbers(all: impl IntoIterator<Item = usize>) -> String {
+    all.into_iter().map(|n| format!(" {n}")).collect()
+}
+
+/// Records of so many words, each by the word for its kind, without the zeros at its end; characters as texts.
+fn records(kinds: &[&str], width: usize, words: &[u32]) -> String {
+    let mut out = String::new();
+    let mut text = false;
+    for record in words.chunks(width) {
+        let end = 1 + record.iter().skip(1).rposition(|w| *w != 0).map_or(0, |last| last + 1);
+        let kind = kinds[record[0] as usize];
+        match char::from_u32(record[1]) {
+            Some(c @ ' '..='~') if kind == "char" && end == 2 && c != '\'' => {
+                if text {
+                    out.pop();
+                } else {
+                    out.push_str(" '");
+                }
+                out.extend([c, '\'']);
+                text = true;
+            }
+            _ => {
+                out.push_str(&format!(" {kind}{}", numbers(wide(&record[1..end]))));
+                text = false;
             }
         }
     }
-    line(&[9, calls, candidates], []);
-}
-
-fn line(head: &[usize], rest: impl IntoIterator<Item = usize>) {
-    let words: Vec<String> = head.iter().copied().chain(rest).map(|n| n.to_string()).collect();
-    println!("{}", words.join(" "));
+    out
 }
 
 fn wide(words: &[u32]) -> impl Iterator<Item = usize> {
     words.iter().map(|w| *w as usize)
+}
+
+/// A clause that has words, or nothing.
+fn clause(verb: &str, words: String) -> String {
+    if words.is_empty() { words } else { format!(" {verb}{words}") }
 }
 
 fn answer(store: &Store, call: &Call) -> Outcome {
@@ -65,7 +91,7 @@ fn answer(store: &Store, call: &Call) -> Outcome {
 }
 
 /// A building call; the store and the fields grow. Fields of more than 14 terms are not made.
-fn build(random: &mut Random, store: &mut Store, fields: &mut Vec<Field>) -> bool {
+fn build(random: &mut Random, store: &mut Store, fields: &mut Vec<Field>) {
     let (f, g) = (generate::longer(random, fields, |f| f.len), random.pick(fields));
     let start = random.below(f.len + 1);
     let len = random.below(f.len - start + 1);
@@ -73,48 +99,59 @@ fn build(random: &mut Random, store: &mut Store, fields: &mut Vec<Field>) -> boo
     let (head, call) = match turn {
         0 | 1 => {
             let runs = generate::runs(random, store, 4, 4);
-            ([&[2, runs.len() / 2], &wide(&runs).collect::<Vec<_>>()[..]].concat(), Call::FromRuns(runs))
+            (format!("from_runs{}", numbers(wide(&runs))), Call::FromRuns(runs))
         }
-        2 | 3 => (vec![3, f.node, f.len, g.node, g.len], Call::Join(f, g)),
-        4 => (vec![4, f.node, f.len, start], Call::Rest(f, start)),
-        _ => (vec![5, f.node, f.len, start, len], Call::Range(f, start, len)),
+        2 | 3 => (format!("join {} {} {} {}", f.node, f.len, g.node, g.len), Call::Join(f, g)),
+        4 => (format!("rest {} {} {start}", f.node, f.len), Call::Rest(f, start)),
+        _ => (format!("range {} {} {start} {len}", f.node, f.len), Call::Range(f, start, len)),
     };
     let got = answer(store, &call);
     if got.answer != 0 || got.values[1] > TERMS {
-        return false;
+        return;
     }
     let made = &got.store.nodes[6 * store.nodes_used..6 * got.store.nodes_used];
-    line(&head, got.values.iter().copied().chain([made.len() / 6]).chain(wide(made)));
+    println!("{head} gives field{}{}", numbers(got.values.clone()), clause("writes nodes", records(NODE, 6, made)));
     fields.push(Field { node: got.values[0], len: got.values[1] });
     *store = got.store;
-    true
 }
 
 /// Both comparisons of two fields.
-fn compare(random: &mut Random, store: &Store, fields: &[Field]) -> usize {
+fn compare(random: &mut Random, store: &Store, fields: &[Field]) {
     let (f, g) = (random.pick(fields), random.pick(fields));
-    for (kind, call) in [(6, Call::Equal(f, g)), (7, Call::StartsWith(f, g))] {
-        line(&[kind, f.node, f.len, g.node, g.len], answer(store, &call).values);
+    for (verb, call) in [("equal", Call::Equal(f, g)), ("starts_with", Call::StartsWith(f, g))] {
+        let yes = ["no", "yes"][answer(store, &call).values[0]];
+        println!("{verb} {} {} {} {} gives {yes}", f.node, f.len, g.node, g.len);
     }
-    2
 }
 
-/// A listing within the bounds, and how many candidates it has.
-fn list(random: &mut Random, store: &Store, fields: &[Field]) -> Option<usize> {
+/// A listing or first match, where it is within the bounds.
+fn list(random: &mut Random, store: &Store, fields: &[Field]) -> bool {
     let field = generate::longer(random, fields, |field| field.len);
     let mut request = generate::request(random, store, field);
     let width = 2 * rules::entries(&store.names, &request.pattern, &request.bindings).len();
     request.first = random.one_in(4);
     request.slots = generate::slots(if random.one_in(4) { random.below(SLOTS) } else { SLOTS.min(width * 40) });
     if request.pattern.len() > 4 * RECORDS || oracle::candidates_bound(store, &request) > 10_000.0 {
-        return None;
+        return false;
     }
     let got = answer(store, &Call::Match(request.clone()));
     let Request { first, field, pattern, bindings, slots } = request;
-    let found = if got.answer == 0 || got.answer == 15 { [got.values[0], got.values[1]] } else { [0, 0] };
-    let head = [8, first.into(), field.node, field.len, pattern.len() / 4];
-    let arguments = wide(&pattern).chain([bindings.len() / 5]).chain(wide(&bindings)).chain([slots.len()]);
-    let told = [got.answer, got.store.terms_used - store.terms_used, found[0], found[1]];
-    line(&head, arguments.chain(told).chain(wide(&got.lent[..2 * found[0] * found[1]])));
-    Some(found[0])
+    let verb = if first { "first" } else { "listing" };
+    print!("set pattern{} set start{} lend slots {}", records(ITEM, 4, &pattern), records(ITEM, 5, &bindings), slots.len());
+    print!(" {verb} {} {} gives", field.node, field.len);
+    let filled = match got.answer {
+        0 | 15 => {
+            let (count, entries) = (got.values[0], got.values[1]);
+            print!(" {} {count} {entries}", if got.answer == 0 { "listed" } else { "more" });
+            2 * count * entries
+        }
+        number => {
+            print!(" refused {number}");
+            0
+        }
+    };
+    let copied = &got.store.terms[4 * store.terms_used..4 * got.store.terms_used];
+    print!("{}{}", clause("writes terms", records(TERM, 4, copied)), clause("writes slots", numbers(wide(&got.lent[..filled]))));
+    println!("{}", if copied.is_empty() { String::new() } else { format!(" use terms {}", store.terms_used) });
+    true
 }

@@ -19,7 +19,7 @@ pub fn capacity(words: &[u32], width: usize) -> usize {
 }
 
 fn whole(words: &[u32], width: usize) -> bool {
-    words.len() % width == 0
+    words.len().is_multiple_of(width)
 }
 
 /// The first of 1 to 9 that applies, or 0.

@@ -1,6 +1,8 @@
 //! Every method of the store, and every answer that it can give.
 
 use super::*;
+use crate::pattern::{Bindings, Item, Pattern};
+use crate::value::{UnknownKind, Value};
 use crate::{e, s, t};
 
 /// A store with the characters of a text as its first terms, and the field of them.

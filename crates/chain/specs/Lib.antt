@@ -1,4 +1,0 @@
-pub mod Chain
-pub mod RunLaws
-pub mod FuseLaws
-pub mod BuildLaws

@@ -1,0 +1,3 @@
+pub mod DropFront
+pub mod StopLaws
+pub mod BuildLaws

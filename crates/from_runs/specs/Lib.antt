@@ -1,0 +1,4 @@
+pub mod FromRuns
+pub mod RunLaws
+pub mod FuseLaws
+pub mod BuildLaws

@@ -1,3 +1,0 @@
-pub mod Rest
-pub mod StopLaws
-pub mod BuildLaws

@@ -1,0 +1,12 @@
+-- `Counts::pattern_start`: within the limits no sum overflows.
+use native.Mathlib.Omega.{arith}
+use borrow.Author.Needs.{needs}
+use Rattle.sheet_spec.specs.SheetLaws.{limits-facts}
+use Rattle.sheet_form.proofs.Counts.pattern_start.Statement.{statement}
+use Rattle.sheet_form.proofs.Counts.pattern_start.Tie as tie
+
+add-result : tie.Need-add-result
+add-result c = omega (arith, limits-facts _ _ _ _ (c .before .pre))
+
+pub pattern-start-spec : {M : Type 1} → statement M
+pattern-start-spec = tie.close (tie.spec (λ c κs. search needs) add-result (λ c. search needs))

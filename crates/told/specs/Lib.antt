@@ -1,4 +1,0 @@
-pub mod Told
-pub mod ToldLaws
-pub mod SheetTold
-pub mod SheetToldLaws
