@@ -7,7 +7,7 @@ use lib.Dec.{leb, eqb}
 use lib.ListN.{length, drop}
 use Prim.Native.Nat.{ℕ, _+_}
 use Rattle.term_spec.specs.Words.{count, whole, records, write}
-use Rattle.term_spec.specs.Term.{Term, termLayout, Run, runLayout, runsRule, limit}
+use Rattle.term_spec.specs.Term.{Term, termLayout, Run, runLayout, runsRule, limit, runListLimit}
 use Rattle.term_spec.specs.Refusal.{uneven, badTerm, badNode, badField, pastEnd, tooLong, badPattern, badBinding, tooManyNames, noMatch}
 use Rattle.term_spec.specs.Refusal.{callsAreNotPatterns, nodesFull, termsFull, workShort}
 use Rattle.view_spec.specs.Node.{Node, nodeLayout, Field, fieldRule}
@@ -155,10 +155,6 @@ slotCount s m = slotsIn (length (m .slots)) (length (allNames s m))
 unfoldable pub ask : Bool → ℕ → Option ℕ → Option ℕ
 ask true n next = next
 ask false n next = some n
-
--- "a run list has over 64 runs" (1).
-abbrev pub runListLimit : ℕ
-runListLimit = 64
 
 -- 1 of pattern and bindings: whole, and at most 256 pattern records.
 unfoldable pub evenRequest : Request → Bool

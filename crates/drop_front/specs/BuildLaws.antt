@@ -18,9 +18,10 @@ use Rattle.nodes.specs.Complete.{reserved, makeOver, wrap as nodeWrap, complete
 use Rattle.nodes.specs.MakeLaws.{any, good-any}
 use Rattle.nodes.specs.WriteLaws.{put-length, put-below, put-upto, put-here, put-above, put-later, later, same-at, written}
 use Rattle.nodes.specs.CompleteLaws.{child-open, child-known, last-next, last-none}
+use Rattle.drop_front.specs.declared.Stop.{Stop}
 use Rattle.drop_front.specs.declared.Stop.the-variants.{Stay, Cut, Under}
-use Rattle.drop_front.specs.DropFront.{Stopped, planIn, Room}
-use Rattle.drop_front.specs.StopLaws.{makes-stay, makes-cut, makes-under}
+use Rattle.drop_front.specs.DropFront.{Stopped, StoppedIn, planIn, Room}
+use Rattle.drop_front.specs.StopLaws.{stop-as, makes-stay, makes-cut, makes-under}
 
 -- ---- a plan within the outer Concats in the words ----
 
@@ -224,17 +225,21 @@ module _ (w : List ℕ) (used node count end : ℕ) (s : AnyStore w used) (asked
     pub down-reaches : Reaches v used at left
     down-reaches = record { low = d .reaches .low; fits = rw (d .below) (d .reaches .fits) }
 
-    pub at-stay : (x : ℕ) → Stopped (nodesIn v used) at left (Stay x) → Bottom w used node count end v hi x
+    -- the stop that was found, over the nodes at entry
+    stopped : {x y : Stop} → x ≡ y → StoppedIn v at left x → Stopped ns at left y
+    stopped e stop = rw (d .below) at (stop-as (nodesIn v used) at left e (stop used down-store down-reaches))
+
+    pub at-stay : (x : ℕ) {stop : Stop} → stop ≡ Stay x → StoppedIn v at left stop → Bottom w used node count end v hi x
     unfolding shrink dropNode
-    at-stay x stop =
-        let t : Stopped ns at left (Stay x) = rw (d .below) at stop in
+    at-stay x same stop =
+        let t : Stopped ns at left (Stay x) = stopped same stop in
         let e : hi ≡ used = omega (arith, d .made, makes-stay ns at left t) in
         bottom v hi x (stay x) (rw e (d .below)) refl (rw (t .plan) (d .all)) (d .lefts) (d .within) (d .above) (d .size)
 
-    pub at-cut : (a b c : ℕ) → Stopped (nodesIn v used) at left (Cut a b c) → AtCut w used node count end v hi a b c
+    pub at-cut : (a b c : ℕ) {stop : Stop} → stop ≡ Cut a b c → StoppedIn v at left stop → AtCut w used node count end v hi a b c
     unfolding shrink dropNode Lasts
-    at-cut a b c stop =
-        let t : Stopped ns at left (Cut a b c) = rw (d .below) at stop in
+    at-cut a b c same stop =
+        let t : Stopped ns at left (Cut a b c) = stopped same stop in
         let h : hi ≡ used + 1 = omega (arith, d .made, makes-cut ns at left t) in
         let k : Cuts (length xs) ns a b c = rw (← t .plan) at (lasts at left (d .reaches)) in
         let room : Lies nodeLayout v (used + 1) = omega (arith, h, d .within, d .size, o .room) in
@@ -256,10 +261,10 @@ module _ (w : List ℕ) (used node count end : ℕ) (s : AnyStore w used) (asked
               (put-length v used n room ∙ d .size));
         }
 
-    pub at-under : (x k m r : ℕ) → Stopped (nodesIn v used) at left (Under x k m r) → AtUnder w used node count end v hi at x k m r
+    pub at-under : (x k m r : ℕ) {stop : Stop} → stop ≡ Under x k m r → StoppedIn v at left stop → AtUnder w used node count end v hi at x k m r
     unfolding Lasts
-    at-under x k m r stop =
-        let t : Stopped ns at left (Under x k m r) = rw (d .below) at stop in
+    at-under x k m r same stop =
+        let t : Stopped ns at left (Under x k m r) = stopped same stop in
         let g = makes-under ns at left t in
         let q : UnderOk xs ns (dropPlan ns x k) m r × Lasts xs ns (dropPlan ns x k) = rw (← t .plan) at (lasts at left (d .reaches)) in
         let room : Lies nodeLayout v (hi - 1 + 1) = omega (arith, d .made, g, d .within, d .size, o .room) in

@@ -1,11 +1,12 @@
 // Dropping terms from the front of a node. From value.rs (`drop_front`). Nothing here recurses: a store can be 65,535 nodes high.
 ghost use mathlib.Core.Path.{_≡_};
+ghost use Prim.Native.Nat.{ℕ};
 ghost use lib.ListN.{drop};
 ghost use Rattle.term_spec.specs.Words.{write};
 ghost use Rattle.view_spec.specs.Node.{nodeLayout};
 ghost use Rattle.view_spec.specs.Build.{dropMakes, dropNode, shrink};
-ghost use Rattle.nodes.specs.NodeStore.{nodesIn, AnyStore, Reaches};
-ghost use Rattle.drop_front.specs.DropFront.{Stopped, planIn, Room};
+ghost use Rattle.nodes.specs.NodeStore.{nodesIn, AnyStore, Reaches, ReachesIn};
+ghost use Rattle.drop_front.specs.DropFront.{StoppedIn, planIn, Room};
 
 // Where dropping ends along the right sides: at a node, in a Cons (its rest, to be made), or inside a Concat's left: that left, the
 // terms to drop there, the size left over, and the right.
@@ -16,10 +17,9 @@ pub enum Stop {
 }
 
 // To the right, from a Cons to its tail and from a Concat to its right, while what is to drop isn't inside.
-fn stop_at(nodes: &[u32], used: usize, node: usize, count: usize) -> Stop
-    requires { ⌜ AnyStore (now nodes) used ⌝ }
-    requires { ⌜ Reaches (now nodes) used node count ⌝ }
-    ensures { λ r. ⌜ Stopped (nodesIn (now (nodes .entry)) used) node count r ⌝ }
+fn stop_at(nodes: &[u32], node: usize, count: usize) -> Stop
+    requires { ⌜ ReachesIn (now nodes) node count ⌝ }
+    ensures { λ r. ⌜ StoppedIn (now (nodes .entry)) node count r ⌝ }
 {
     let mut at = node;
     let mut left = count;
@@ -40,16 +40,17 @@ fn stop_at(nodes: &[u32], used: usize, node: usize, count: usize) -> Stop
 }
 
 // How many nodes drop_front_build makes.
-pub fn drop_front_makes(nodes: &[u32], used: usize, node: usize, count: usize) -> usize
-    requires { ⌜ AnyStore (now nodes) used ⌝ }
-    requires { ⌜ Reaches (now nodes) used node count ⌝ }
-    ensures { λ r. ⌜ r ≡ dropMakes (planIn (now (nodes .entry)) used node count) ⌝ }
+pub fn drop_front_makes(nodes: &[u32], node: usize, count: usize) -> usize
+    requires { ⌜ ReachesIn (now nodes) node count ⌝ }
+    ensures { λ r.
+        let words = now (nodes .entry) in
+        ⌜ ((used : ℕ) → AnyStore words used → Reaches words used node count → r ≡ dropMakes (planIn words used node count)) ⌝ }
 {
     let mut at = node;
     let mut left = count;
     let mut made: usize = 0;
     loop {
-        match stop_at(nodes, used, at, left) {
+        match stop_at(nodes, at, left) {
             Stop::Stay(_) => {
                 return made;
             }
@@ -74,9 +75,9 @@ pub fn drop_front_build(
     count: usize,
     end: usize,
 ) -> usize
-    requires { ⌜ AnyStore (now nodes) used ⌝ }
-    requires { ⌜ Reaches (now nodes) used node count ⌝ }
-    requires { ⌜ Room (now nodes) used node count end ⌝ }
+    requires store { ⌜ AnyStore (now nodes) used ⌝ }
+    requires reaches { ⌜ Reaches (now nodes) used node count ⌝ }
+    requires room { ⌜ Room (now nodes) used node count end ⌝ }
     ensures { λ r.
         let before = now (nodes .entry) in
         let plan = planIn before used node count in
@@ -87,7 +88,7 @@ pub fn drop_front_build(
     let mut at = node;
     let mut left = count;
     loop {
-        match stop_at(nodes, used, at, left) {
+        match stop_at(nodes, at, left) {
             Stop::Stay(x) => {
                 return nodes::complete(nodes, hi, end, x);
             }

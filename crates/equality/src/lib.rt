@@ -251,8 +251,8 @@ pub fn equal_runs(
     p: usize,
     m: usize,
 ) -> bool
-    requires { ⌜ TermStore (now names) (now terms) used × (used ≤ limit) ⌝ }
-    requires { ⌜ (s + n ≤ used) × (p + m ≤ used) ⌝ }
+    requires store { ⌜ TermStore (now names) (now terms) used × (used ≤ limit) ⌝ }
+    requires within { ⌜ (s + n ≤ used) × (p + m ≤ used) ⌝ }
     ensures { λ r. ⌜ r ≡ equalRuns (now (names .entry)) (now (terms .entry)) used s n p m ⌝ }
 {
     let first = Run { start: s, len: n };

@@ -8,18 +8,18 @@ use lib.ListN.{length, drop}
 use Prim.Native.Nat.{ℕ, _+_, _*_, _/_, _%_, _≤_, _<_}
 use native.Mathlib.Omega.{arith}
 use Rattle.term_spec.specs.BoolLaws.{both-of}
-use Rattle.term_spec.specs.Words.{recordAt, records, count, whole}
+use Rattle.term_spec.specs.Words.{AtMost, recordAt, records, count, whole}
 use Rattle.term_spec.specs.WordsLaws.{run-lays, record-next, records-done, records-length}
-use Rattle.term_spec.specs.Term.{Run, runLayout, runRule, runsRule, limit}
+use Rattle.term_spec.specs.Term.{Run, runLayout, runRule, runsRule, limit, runListLimit}
 use Rattle.term_spec.specs.TermLaws.{run-facts}
 use Rattle.view_spec.specs.Build.{total}
 
 module _ (w : List ℕ) where
-  pub uneven : (length w % runLayout .width ≡ 0 → ⊥) → false ≡ whole runLayout w && leb (count runLayout w) 64
+  pub uneven : (length w % runLayout .width ≡ 0 → ⊥) → false ≡ whole runLayout w && leb (count runLayout w) runListLimit
   unfolding whole
   uneven n = simp (ne-eqb _ _ n)
 
-  pub even : length w % runLayout .width ≡ 0 → leb (length w / runLayout .width) 64 ≡ whole runLayout w && leb (count runLayout w) 64
+  pub even : length w % runLayout .width ≡ 0 → leb (length w / runLayout .width) runListLimit ≡ whole runLayout w && leb (count runLayout w) runListLimit
   unfolding whole count
   even e = simp (eq-eqb _ _ e)
 
@@ -78,5 +78,5 @@ total-most terms (r ∷ rs) u h =
     let (x, y) = both-of (runRule terms r) (runsRule terms rs) h in
     omega (arith, run-facts terms r x, total-most terms rs u y)
 
-pub total-low : (w : List ℕ) (terms : ℕ) → terms ≤ limit → length w ≤ 129 → T (runsRule terms (records runLayout w)) → total (records runLayout w) ≤ 4194304
+pub total-low : (w : List ℕ) (terms : ℕ) → terms ≤ limit → AtMost runLayout w runListLimit → T (runsRule terms (records runLayout w)) → total (records runLayout w) ≤ 4194304
 total-low w terms u l h = omega (arith, total-most terms (records runLayout w) u h, size w)

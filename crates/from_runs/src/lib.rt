@@ -6,8 +6,8 @@ ghost use Prim.Native.Nat.{_≤_};
 ghost use mathlib.Core.Bool.{_&&_};
 ghost use lib.Dec.{leb};
 ghost use lib.ListN.{length, drop};
-ghost use Rattle.term_spec.specs.Words.{count, whole, records, write};
-ghost use Rattle.term_spec.specs.Term.{runLayout, runsRule};
+ghost use Rattle.term_spec.specs.Words.{AtMost, count, whole, records, write};
+ghost use Rattle.term_spec.specs.Term.{runLayout, runsRule, runListLimit};
 ghost use Rattle.view_spec.specs.Node.{nodeLayout};
 ghost use Rattle.view_spec.specs.Build.{chain, chainHead, total};
 ghost use Rattle.words.specs.Records.{asRun};
@@ -25,12 +25,12 @@ pub enum Step {
 pub fn runs_even(runs: &[u32]) -> bool
     ensures { λ r.
         let words = now (runs .entry) in
-        ⌜ r ≡ whole runLayout words && leb (count runLayout words) 64 ⌝ }
+        ⌜ r ≡ whole runLayout words && leb (count runLayout words) runListLimit ⌝ }
 {
     if runs.len() % words::RUN_WIDTH != 0 {
         return false;
     }
-    runs.len() / words::RUN_WIDTH <= 64
+    runs.len() / words::RUN_WIDTH <= words::RUN_LIST_LIMIT
 }
 
 // Whether every run, even an empty one, ends within so many terms.
@@ -54,8 +54,8 @@ pub fn runs_inside(runs: &[u32], terms: usize) -> bool
 
 // The terms of the runs together.
 pub fn runs_total(runs: &[u32]) -> usize
-    requires { ⌜ Inside (now runs) ⌝ }
-    requires { ⌜ length (now runs) ≤ 129 ⌝ }
+    requires inside { ⌜ Inside (now runs) ⌝ }
+    requires few { ⌜ AtMost runLayout (now runs) runListLimit ⌝ }
     ensures { λ r. ⌜ r ≡ total (records runLayout (now (runs .entry))) ⌝ }
 {
     let n = runs.len() / words::RUN_WIDTH;

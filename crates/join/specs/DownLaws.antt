@@ -18,7 +18,7 @@ use Rattle.nodes.specs.RuleLaws.{below-at}
 use Rattle.nodes.specs.MakeLaws.{any, good-any}
 use Rattle.nodes.specs.WriteLaws.{put-length, put-upto, put-below, put-here, put-above, put-later, written}
 use Rattle.nodes.specs.CompleteLaws.{child-known, Grows, snoc-grows, wrap-grows, wrap-same, made-last, Ready, ready}
-use Rattle.join.specs.Turn.{Turned, planBefore, grown, Joins}
+use Rattle.join.specs.Turn.{Turned, TurnedIn, planBefore, grown, Joins}
 use Rattle.join.specs.TurnLaws.{makes-base, makes-single, makes-double, rest-single, rest-double}
 use Rattle.join.specs.declared.Turn.{Turn}
 use Rattle.join.specs.declared.Turn.the-variants.{Base, Single, Double}
@@ -122,6 +122,10 @@ down-start w used right node len end e s p j =
       nodes = rw o refl;
     })
 
+-- The store so far, for the turn.
+pub down-store : {w : List ℕ} {used right h end : ℕ} {z : List Node} {v : List ℕ} {lo hi at n : ℕ} → Down w used right h end z v lo hi at n → AnyStore v used
+down-store d = record { terms = d .terms; few-terms = d .few-terms; store = d .kept .store }
+
 -- ---- one turn ----
 
 -- What `complete` asks and leaves, after the base is made.
@@ -140,9 +144,9 @@ pub record Outers (hi at x a b : ℕ) (v : List ℕ) : Type 0 where
   pub lower : x < at
 
 module _ {w : List ℕ} {used right h end : ℕ} {z : List Node} {v : List ℕ} {lo hi at n : ℕ} (d : Down w used right h end z v lo hi at n)
-    {t : Turn} (tn : Turned (nodesIn v used) h at n t) where
+    {t : Turn} (tn : TurnedIn v h at n t) where
   turned : Turned (nodesIn w used) h at n t
-  turned = rw (d .kept .front) at tn
+  turned = rw (d .kept .front) at (tn used (down-store d) (rw (d .kept .front) (d .piece)))
 
   -- an outer Concat over the rest of the plan, in words u whose nodes below k are made
   module _ (u : List ℕ) (k a b x m : ℕ) (keeps : Kept w (d .terms) used end u) (from : used ≤ k) (up : hi ≡ suc (k + planMakes (plan (nodesIn w used) h x m)))
@@ -295,7 +299,3 @@ module _ {w : List ℕ} {used right h end : ℕ} {z : List Node} {v : List ℕ} 
 
       pub double-next : {y : List ℕ} → y ≡ write nodeLayout u (hi - 1) (reserved lo (b + f) 0 ∷ []) → Down w used right h end z y (lo + 1) (hi - 1) x m
       double-next = outer-next u (lo + 1) lo (b + f) x m head-kept (omega (arith, d .low)) double-high (rest-double turned e) double-is
-
--- The store so far, for the turn.
-pub down-store : {w : List ℕ} {used right h end : ℕ} {z : List Node} {v : List ℕ} {lo hi at n : ℕ} → Down w used right h end z v lo hi at n → AnyStore v used
-down-store d = record { terms = d .terms; few-terms = d .few-terms; store = d .kept .store }

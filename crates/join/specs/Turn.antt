@@ -7,7 +7,7 @@ use Rattle.term_spec.specs.Words.{Lies}
 use Rattle.term_spec.specs.Term.{limit}
 use Rattle.view_spec.specs.Node.{Node, nodeLayout, nodeAt, Piece}
 use Rattle.view_spec.specs.Build.{Plan, base, single, double, plan, planMakes, grow}
-use Rattle.nodes.specs.NodeStore.{nodesIn}
+use Rattle.nodes.specs.NodeStore.{nodesIn, AnyStore}
 use Rattle.join.specs.declared.Turn.{Turn}
 use Rattle.join.specs.declared.Turn.the-variants.{Base, Single, Double}
 
@@ -23,10 +23,20 @@ Rest ns node (Base l n) = Unit {0}
 Rest ns node (Single a b x n) = (x < node) × Piece ns x n
 Rest ns node (Double a b c d x n) = (x < node) × Piece ns x n
 
+-- The first len terms of a node of some store of the words: what a function asks that does not read how many nodes are used.
+pub record PieceIn (w : List ℕ) (node len : ℕ) : Type 0 where
+  pub used : ℕ
+  pub store : AnyStore w used
+  pub piece : Piece (nodesIn w used) node len
+
 -- The turn that the plan for len terms of `node` starts with.
 pub record Turned (ns : List Node) (h node len : ℕ) (t : Turn) : Type 0 where
   pub plans : turnPlan ns h t ≡ plan ns h node len
   pub rest : Rest ns node t
+
+-- The same in every store of the words that has those terms.
+abbrev pub TurnedIn : List ℕ → ℕ → ℕ → ℕ → Turn → Type 0
+TurnedIn w h node len t = (used : ℕ) → AnyStore w used → Piece (nodesIn w used) node len → Turned (nodesIn w used) h node len t
 
 -- The plan of a join of the first len terms of `node` before node `right`.
 abbrev pub planBefore : List Node → ℕ → ℕ → ℕ → Plan

@@ -1,11 +1,12 @@
 // Joining ropes (value.rs, `join`), as loops: a store can be 65,535 nodes high, so nothing here recurses.
 ghost use mathlib.Core.Path.{_≡_};
+ghost use Prim.Native.Nat.{ℕ};
 ghost use lib.ListN.{drop};
 ghost use Rattle.term_spec.specs.Words.{write};
 ghost use Rattle.view_spec.specs.Node.{nodeLayout, Piece};
 ghost use Rattle.view_spec.specs.Build.{plan, planMakes};
 ghost use Rattle.nodes.specs.NodeStore.{nodesIn, AnyStore};
-ghost use Rattle.join.specs.Turn.{Turned, grown, Joins};
+ghost use Rattle.join.specs.Turn.{PieceIn, TurnedIn, grown, Joins};
 
 // One step of a join, from the top of the left down. Base: the first terms of a node, before the right. Single: the first terms of a node,
 // before the rest. Double: a head of a node's first terms and a further node, the first terms of that head, before the rest.
@@ -16,12 +17,11 @@ pub enum Turn {
 }
 
 // The turn for the first len terms of a node, h being the right's height.
-pub fn next_turn(nodes: &[u32], used: usize, h: usize, node: usize, len: usize) -> Turn
-    requires { ⌜ AnyStore (now nodes) used ⌝ }
-    requires { ⌜ Piece (nodesIn (now nodes) used) node len ⌝ }
-    ensures { λ r. ⌜ Turned (nodesIn (now (nodes .entry)) used) h node len r ⌝ }
+pub fn next_turn(nodes: &[u32], h: usize, node: usize, len: usize) -> Turn
+    requires { ⌜ PieceIn (now nodes) node len ⌝ }
+    ensures { λ r. ⌜ TurnedIn (now (nodes .entry)) h node len r ⌝ }
 {
-    let left = nodes::unclamp(nodes, used, node, len);
+    let left = nodes::unclamp(nodes, node, len);
     let n = words::get_node(nodes, left);
     if n.kind != words::CONCAT {
         return Turn::Base(left, len);
@@ -35,7 +35,7 @@ pub fn next_turn(nodes: &[u32], used: usize, h: usize, node: usize, len: usize) 
     if inner_right.height <= inner_left.height {
         return Turn::Single(n.a, n.b, n.c, inner);
     }
-    let middle = nodes::unclamp(nodes, used, n.c, inner);
+    let middle = nodes::unclamp(nodes, n.c, inner);
     let m = words::get_node(nodes, middle);
     if m.kind != words::CONCAT {
         return Turn::Base(left, len);
@@ -44,16 +44,18 @@ pub fn next_turn(nodes: &[u32], used: usize, h: usize, node: usize, len: usize) 
 }
 
 // How many nodes a join makes: the turns counted, nothing written.
-pub fn join_makes(nodes: &[u32], used: usize, h: usize, node: usize, len: usize) -> usize
-    requires { ⌜ AnyStore (now nodes) used ⌝ }
-    requires { ⌜ Piece (nodesIn (now nodes) used) node len ⌝ }
-    ensures { λ r. ⌜ r ≡ planMakes (plan (nodesIn (now (nodes .entry)) used) h node len) ⌝ }
+pub fn join_makes(nodes: &[u32], h: usize, node: usize, len: usize) -> usize
+    requires { ⌜ PieceIn (now nodes) node len ⌝ }
+    ensures { λ r.
+        let words = now (nodes .entry) in
+        ⌜ ((used : ℕ) → AnyStore words used → Piece (nodesIn words used) node len
+        → r ≡ planMakes (plan (nodesIn words used) h node len)) ⌝ }
 {
     let mut at = node;
     let mut n = len;
     let mut made = 1;
     loop {
-        match next_turn(nodes, used, h, at, n) {
+        match next_turn(nodes, h, at, n) {
             Turn::Base(_, _) => {
                 return made;
             }
@@ -74,9 +76,9 @@ pub fn join_makes(nodes: &[u32], used: usize, h: usize, node: usize, len: usize)
 // The nodes of a join: the first len terms of a node, before node `right`. `end` is the used count after it, which the caller has counted.
 // Down: heads are made at the lowest free number, outer Concats are reserved at the highest; then up.
 pub fn join_build(nodes: &mut [u32], used: usize, right: usize, node: usize, len: usize, end: usize)
-    requires { ⌜ AnyStore (now nodes) used ⌝ }
-    requires { ⌜ Piece (nodesIn (now nodes) used) node len ⌝ }
-    requires { ⌜ Joins (now nodes) used right node len end ⌝ }
+    requires store { ⌜ AnyStore (now nodes) used ⌝ }
+    requires piece { ⌜ Piece (nodesIn (now nodes) used) node len ⌝ }
+    requires room { ⌜ Joins (now nodes) used right node len end ⌝ }
     ensures { λ _.
         let before = now (nodes .entry) in
         let new = drop used (grown (nodesIn before used) right node len) in
@@ -89,7 +91,7 @@ pub fn join_build(nodes: &mut [u32], used: usize, right: usize, node: usize, len
     let mut at = node;
     let mut n = len;
     loop {
-        match next_turn(nodes, used, h, at, n) {
+        match next_turn(nodes, h, at, n) {
             Turn::Base(l, m) => {
                 nodes::make_concat(nodes, lo, l, m, right);
                 nodes::complete(nodes, hi, end, lo);

@@ -137,8 +137,8 @@ fn walk_from(
     g: Goal,
     slots: &mut [u32],
 ) -> Tally
-    requires { ⌜ length (now bindings) < (nameLimit + 1) * bindingLayout .width ⌝ }
-    requires { let given = givenOf (now names) (now terms) used (now pattern) (now numbers) in
+    requires few { ⌜ length (now bindings) < (nameLimit + 1) * bindingLayout .width ⌝ }
+    requires ready { let given = givenOf (now names) (now terms) used (now pattern) (now numbers) in
         let start = map boundRun (records bindingLayout (now bindings)) in
         ⌜ ReadyToStart given (g .entries) (asRun run) start × SlotsReady g noTally (now slots) ⌝ }
     ensures { λ r.
@@ -246,7 +246,7 @@ fn list(
     if items::NAME_LIMIT < entries {
         return Matched::Refused(refusal::TOO_MANY_NAMES);
     }
-    match view_read::settle(terms, terms_used, nodes, nodes_used, f) {
+    match view_read::settle(terms, terms_used, nodes, f) {
         Settled::Refused(n) => Matched::Refused(n),
         Settled::At(run) => {
             let cap = slots_in(slots.len(), entries);

@@ -1,5 +1,5 @@
--- A pattern as a list of elements, and putting values into it (01, "Trying a pattern"; the Refal-5 manual, sections 1.3 and 2.2, whose meaning
--- is taken as 01 gives it).
+-- A pattern as a list of elements, and putting values into it (01, "Trying a pattern"; the Refal-5 manual's sections 1.3, 2.2 and 6.4,
+-- whose meaning is taken as 01 gives it).
 use mathlib.Core.Path.{_≡_}
 use mathlib.Core.List.{List, [], _∷_, _++_}
 use lib.Dec.{T}
@@ -8,7 +8,7 @@ use Prim.Native.Nat.{ℕ}
 use Rattle.term_spec.specs.Value.{Value, canon, bracketed, Single, takes}
 
 -- A literal; an Open and a Close; a Call or Block; an s- or t-variable, which takes one term; an e-variable, which takes any number of terms (01;
--- the manual, sections 1.3 and 2.2). N is how a variable is named: by kind and text, or by its entry's number.
+-- the manual's sections 1.3, 2.2 and 6.4). N is how a variable is named: by kind and text, or by its entry's number.
 pub data Element (N : Type 0) : Type 0 where
   lit : Value → Element N
   opening closing call : Element N
@@ -55,7 +55,7 @@ put (call ∷ p) B = []
 put (one k n ∷ p) B = onTop (B n ++_) (put p B)
 put (many n ∷ p) B = onTop (B n ++_) (put p B)
 
--- "gives each pattern s or t one term it takes": by 01's table of kinds (01; the Refal-5 manual, section 1.3).
+-- "gives each pattern s or t one term it takes": by 01's table of kinds, for the Refal-5 manual's sections 1.3, 2.2 and 6.4.
 unfoldable pub Ones : {N : Type 0} → List (Element N) → (N → Level) → Type 0
 Ones [] B = Unit {0}
 Ones (lit v ∷ p) B = Ones p B

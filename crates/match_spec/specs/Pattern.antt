@@ -88,7 +88,8 @@ boundRun b = record { start = b .start; len = b .len }
 
 -- ---- names ----
 
--- "Two names are one when kind and text agree, ASCII case ignored" (01; the manual, section 2.2): a name is its kind and its lowered text.
+-- "Two names are one when kind and text agree, ASCII case ignored" (01, for the manual's sections 1.3, 2.2 and 6.4): a name is its kind
+-- and its lowered text.
 abbrev pub Name : Type 0
 Name = List ℕ
 
@@ -141,8 +142,8 @@ number (many x ∷ p) t = many (find x t) ∷ number p (add x t)
 
 -- ---- what a record means ----
 
--- "3 Open, a is its Close; 4 Close, a is its Open; 5 s-variable, 6 t-variable, 7 e-variable, a and b their name; 8 Call, 9 Block." A Call or Block names nothing. What each
--- kind means is 01's rendering of the Refal-5 manual, sections 1.3 and 2.2.
+-- "3 Open, a is its Close; 4 Close, a is its Open; 5 s-variable, 6 t-variable, 7 e-variable, a and b their name; 8 Call, 9 Block." A Call or
+-- Block names nothing. What each kind means is taken as 01 gives it for the Refal-5 manual's sections 1.3, 2.2 and 6.4.
 unfoldable pub elementK : ℕ → List ℕ → Item → Element Name
 elementK zero names t = lit (char (t .a))
 elementK (suc zero) names t = lit (ident (textAt names (t .a) (t .b)))

@@ -68,10 +68,10 @@ unfoldable pub ifKnown : {P : Type 0} → Dec P → Bool → Bool
 ifKnown (yes h) b = b
 ifKnown (no h) b = true
 
--- The rigid run (01; the Refal-5 manual, section 6.4): whether the rigid run at the start of a pattern fits the terms c: "the records before the next open e-variable, Call or Block of its
--- level; a bracket counts as one record, 1 wide", each fitting by literal, by the kind a variable takes (a bound s or t is not checked by
--- value), by being a bracket, or by a bound e-variable's terms. d counts the brackets of the run that are being passed over. An absent
--- run, and one 0 wide, fit everywhere.
+-- Whether the rigid run (01's word, for the Refal-5 manual's sections 1.3, 2.2 and 6.4) at the start of a pattern fits the terms c: "the
+-- records before the next open e-variable, Call or Block of its level; a bracket counts as one record, 1 wide", each fitting by literal, by
+-- the kind a variable takes (a bound s or t is not checked by value), by being a bracket, or by a bound e-variable's terms. d counts the
+-- brackets of the run that are being passed over. An absent run, and one 0 wide, fit everywhere.
 unfoldable pub rigidFits : List (Element ℕ) → ℕ → Env → Level → Bool
 rigidFits [] d env c = true
 rigidFits (lit v ∷ p) zero env c = atHead c (λ w r. ifFits (same? v w) (rigidFits p zero env r))
@@ -124,7 +124,7 @@ unfoldable pub takeFirst : {R B : Type 0} → Reading R → List R → (Value �
 takeFirst rd [] f = []
 takeFirst rd (r ∷ st) f = withHead (rd .cells r) (λ v. f v r (rd .back 1 r ∷ st))
 
--- A Close (01; the manual, section 2.2): the innermost level ends, with another around it.
+-- A Close: the innermost level ends, with another around it.
 unfoldable pub leaveLevel : {R B : Type 0} → Reading R → List R → (List R → List B) → List B
 leaveLevel rd [] f = []
 leaveLevel rd (r ∷ []) f = []
@@ -136,7 +136,7 @@ finishWalk rd [] env = []
 finishWalk rd (r ∷ []) env = ifEmpty (rd .cells r) (hit env ∷ [])
 finishWalk rd (r ∷ (q ∷ st)) env = []
 
--- An s- or t-variable (01; the manual, section 2.2): entry n gets the run x; a known entry must show equal terms, a new one is added.
+-- An s- or t-variable: entry n gets the run x; a known entry must show equal terms, a new one is added.
 unfoldable pub bindRun : {R B : Type 0} → Reading R → (n : ℕ) → R → (List R → List B) → (env : List R) → Dec (n < length env) → List B
 bindRun rd n x f env (yes h) = guard (sames? (rd .cells (getD env n (rd .nothing))) (rd .cells x)) (f env)
 bindRun rd n x f env (no h) = f (env ++ (x ∷ []))
@@ -146,7 +146,7 @@ unfoldable pub topLevel : {R B : Type 0} → List R → (R → List R → List B
 topLevel [] f = []
 topLevel (r ∷ st) f = f r st
 
--- (01; the Refal-5 manual, sections 2.2 and 6.4.) An e-variable x before the pattern p, at level r: "a bound one must equal the terms ahead"; one "that ends its level takes what remains";
+-- An e-variable x before the pattern p, at level r: "a bound one must equal the terms ahead"; one "that ends its level takes what remains";
 -- "an open one is tried at splits from 0 upward", those where the rigid run after it fits, "itself still open".
 unfoldable pub spread : {R P : Type 0} → Reading R → Dec P → Bool → R → List (Element ℕ) → List R → R → (R → List R → List (Event (List R))) → List (Event (List R))
 spread rd (yes h) e x p env r f = enter (strip (rd .cells x) (rd .cells r)) (λ t. f (rd .back (length (rd .cells x)) r) env)

@@ -36,8 +36,8 @@ struct Taken {
 
 // A candidate, the words of its entries in `binds`, goes into the next slot if there is one.
 fn emit(binds: &[u32], g: Goal, slots: &mut [u32], f: Tally) -> Tally
-    requires { ⌜ (g .entries ≤ nameLimit) × EntryRoom (now binds) ⌝ }
-    requires { ⌜ SlotsReady g f (now slots) ⌝ }
+    requires room { ⌜ (g .entries ≤ nameLimit) × EntryRoom (now binds) ⌝ }
+    requires open_slots { ⌜ SlotsReady g f (now slots) ⌝ }
     ensures { λ r.
         let candidate = entriesIn (g .entries) (now (binds .entry)) in
         ⌜ Written g (hit candidate ∷ []) f r (now (slots .entry)) (now (slots .exit)) ⌝ }
@@ -129,9 +129,9 @@ pub fn walk(
     slots: &mut [u32],
     f: Tally,
 ) -> Tally
-    requires { let given = givenOf (now names) (now terms) used (now pattern) (now numbers) in
+    requires ready { let given = givenOf (now names) (now terms) used (now pattern) (now numbers) in
         ⌜ Ready given p (g .entries) (placeOf s (now levels) (now binds)) ⌝ }
-    requires { ⌜ SlotsReady g f (now slots) ⌝ }
+    requires open_slots { ⌜ SlotsReady g f (now slots) ⌝ }
     ensures { λ r.
         let given = givenOf (now (names .entry)) (now (terms .entry)) used (now (pattern .entry)) (now (numbers .entry)) in
         let here = placeOf s (now (levels .entry)) (now (binds .entry)) in

@@ -25,3 +25,15 @@ pub record AnyStore (w : List ℕ) (used : ℕ) : Type 0 where
 pub record Reaches (w : List ℕ) (used node len : ℕ) : Type 0 where
   pub low : node < used
   pub fits : len ≤ (nodeAt (nodesIn w used) node) .reach
+
+-- A node of some store of the words: what a function asks that does not read how many are used.
+pub record NodeIn (w : List ℕ) (node : ℕ) : Type 0 where
+  pub used : ℕ
+  pub store : AnyStore w used
+  pub low : node < used
+
+-- The same with at least len terms.
+pub record ReachesIn (w : List ℕ) (node len : ℕ) : Type 0 where
+  pub used : ℕ
+  pub store : AnyStore w used
+  pub reaches : Reaches w used node len

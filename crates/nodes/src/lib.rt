@@ -3,7 +3,7 @@
 use words::Node;
 ghost use mathlib.Core.Path.{_≡_};
 ghost use mathlib.Core.List.{List, [], _∷_};
-ghost use Prim.Native.Nat.{_+_, _<_, _≤_, _^_, min, max};
+ghost use Prim.Native.Nat.{ℕ, _+_, _<_, _≤_, _^_, min, max};
 ghost use lib.Dec.{eqb};
 ghost use lib.ListN.{length};
 ghost use Rattle.term_spec.specs.Words.{Lies, recordAt, write};
@@ -12,7 +12,7 @@ ghost use Rattle.view_spec.specs.Node.{Node as SpecNode, nodeLayout, consNode, 
 ghost use Rattle.view_spec.specs.Node.{nilRule, consRule, concatRule, nodeRule, nodesRule, fieldRule};
 ghost use Rattle.view_spec.specs.Build.{unclamp as unclampedNode};
 ghost use Rattle.words.specs.Records.{asNode};
-ghost use Rattle.nodes.specs.NodeStore.{nodesIn, AnyStore};
+ghost use Rattle.nodes.specs.NodeStore.{nodesIn, AnyStore, NodeIn};
 ghost use Rattle.nodes.specs.Complete.{reserved, childOf, completed, lastMade, Completes, Became};
 
 fn larger(a: usize, b: usize) -> usize
@@ -193,8 +193,8 @@ fn reach_of(b: usize, after: usize) -> usize
 
 // One more node: a Cons of the run (a, b) before tail c.
 pub fn make_cons(nodes: &mut [u32], used: usize, a: usize, b: usize, c: usize)
-    requires { ⌜ AnyStore (now nodes) used ⌝ }
-    requires { ⌜ Lies nodeLayout (now nodes) (used + 1) × (a < 2 ^ 32) × (b ≤ limit) × (c < used) ⌝ }
+    requires store { ⌜ AnyStore (now nodes) used ⌝ }
+    requires fits { ⌜ Lies nodeLayout (now nodes) (used + 1) × (a < 2 ^ 32) × (b ≤ limit) × (c < used) ⌝ }
     ensures { λ _.
         let words = now (nodes .entry) in
         ⌜ now (nodes .exit) ≡ write nodeLayout words used (consNode (nodesIn words used) a b c ∷ []) ⌝ }
@@ -213,8 +213,8 @@ pub fn make_cons(nodes: &mut [u32], used: usize, a: usize, b: usize, c: usize)
 
 // One more node: a Concat of the first b terms of a before c.
 pub fn make_concat(nodes: &mut [u32], used: usize, a: usize, b: usize, c: usize)
-    requires { ⌜ AnyStore (now nodes) used ⌝ }
-    requires { ⌜ Lies nodeLayout (now nodes) (used + 1) × (a < used) × (b ≤ limit) × (c < used) ⌝ }
+    requires store { ⌜ AnyStore (now nodes) used ⌝ }
+    requires fits { ⌜ Lies nodeLayout (now nodes) (used + 1) × (a < used) × (b ≤ limit) × (c < used) ⌝ }
     ensures { λ _.
         let words = now (nodes .entry) in
         ⌜ now (nodes .exit) ≡ write nodeLayout words used (concatNode (nodesIn words used) a b c ∷ []) ⌝ }
@@ -235,10 +235,11 @@ pub fn make_concat(nodes: &mut [u32], used: usize, a: usize, b: usize, c: usize)
 // ---- unclamp ----
 
 // Down the left of a node while the length fits in it.
-pub fn unclamp(nodes: &[u32], used: usize, node: usize, len: usize) -> usize
-    requires { ⌜ AnyStore (now nodes) used ⌝ }
-    requires { ⌜ node < used ⌝ }
-    ensures { λ r. ⌜ (r ≤ node) × (r ≡ unclampedNode (nodesIn (now (nodes .entry)) used) node len) ⌝ }
+pub fn unclamp(nodes: &[u32], node: usize, len: usize) -> usize
+    requires { ⌜ NodeIn (now nodes) node ⌝ }
+    ensures { λ r.
+        let words = now (nodes .entry) in
+        ⌜ (r ≤ node) × ((used : ℕ) → AnyStore words used → node < used → r ≡ unclampedNode (nodesIn words used) node len) ⌝ }
 {
     let mut at = node;
     loop {

@@ -249,8 +249,8 @@ fn find_name(
     new: usize,
     t: Item,
 ) -> usize
-    requires { ⌜ (new ≤ length (now firsts)) × (t .a + t .b ≤ length (now names)) × ItemTexts (now names) (now pattern) (now firsts) new ⌝ }
-    requires { ⌜ (AtMost bindingLayout (now bindings) nameLimit) × (new ≤ nameLimit)
+    requires known_firsts { ⌜ (new ≤ length (now firsts)) × (t .a + t .b ≤ length (now names)) × ItemTexts (now names) (now pattern) (now firsts) new ⌝ }
+    requires known_bindings { ⌜ (AtMost bindingLayout (now bindings) nameLimit) × (new ≤ nameLimit)
         × BindingTexts (now names) (now bindings) (count bindingLayout (now bindings)) ⌝ }
     ensures { λ r.
         let text = now (names .entry) in
@@ -271,9 +271,9 @@ const TOO_MANY: usize = items::NAME_LIMIT + 1;
 // Numbers each variable of the pattern: the start's names first, then first occurrence; other records get 0. Hands back how many names there
 // are, 65 if they are over 64 (then the numbers mean nothing). `firsts` has the numbers of the records that brought the new names.
 pub fn number_names(names: &[u8], pattern: &[u32], bindings: &[u32], numbers: &mut [u32]) -> usize
-    requires { ⌜ (AtMost itemLayout (now pattern) patternLimit) × (AtMost bindingLayout (now bindings) nameLimit)
+    requires room { ⌜ (AtMost itemLayout (now pattern) patternLimit) × (AtMost bindingLayout (now bindings) nameLimit)
         × (patternLimit ≤ length (now numbers)) ⌝ }
-    requires { ⌜ T (patternRule (now names) (records itemLayout (now pattern)))
+    requires rules { ⌜ T (patternRule (now names) (records itemLayout (now pattern)))
         × T (bindingsRule (now names) (records bindingLayout (now bindings)) []) ⌝ }
     ensures { λ r.
         let parts = elements (now (names .entry)) (records itemLayout (now (pattern .entry))) in

@@ -25,8 +25,8 @@ pub enum Fit {
 
 // A literal, a bracket, or an s- or t-variable at a term that is there.
 fn fit_term(names: &[u8], terms: &[u32], t: Item, start: usize) -> bool
-    requires { ⌜ InStore (now names) (now terms) (record { start = start; len = 1 }) ⌝ }
-    requires { ⌜ T (itemRuleK (t .kind) (now names) (asItem t)) × (t .kind < expressionVariableKind) × (t .kind ≡ closeKind → ⊥) ⌝ }
+    requires store { ⌜ InStore (now names) (now terms) (record { start = start; len = 1 }) ⌝ }
+    requires rule { ⌜ T (itemRuleK (t .kind) (now names) (asItem t)) × (t .kind < expressionVariableKind) × (t .kind ≡ closeKind → ⊥) ⌝ }
     ensures { λ r.
         let terms = now (terms .entry) in
         ⌜ ((used : ℕ) → start < used → r ≡ fitsTerm (now (names .entry)) (decode termLayout used terms) (asItem t) start) ⌝ }
@@ -59,8 +59,8 @@ fn fit_record(
     start: usize,
     len: usize,
 ) -> Fit
-    requires { ⌜ RunReady (now names) (now terms) used (record { start = start; len = len }) × Known used bound (now binds) ⌝ }
-    requires { ⌜ T (itemRuleK (t .kind) (now names) (asItem t)) ⌝ }
+    requires ready { ⌜ RunReady (now names) (now terms) used (record { start = start; len = len }) × Known used bound (now binds) ⌝ }
+    requires rule { ⌜ T (itemRuleK (t .kind) (now names) (asItem t)) ⌝ }
     ensures { λ r.
         let fits = fitsAt (now (names .entry)) (now (terms .entry)) used bound (now (binds .entry)) in
         let element = coded (now (names .entry)) (asItem t) x in
@@ -133,8 +133,8 @@ pub fn rigid_run_matches(
     s: State,
     binds: &[u32],
 ) -> bool
-    requires { ⌜ RunReady (now names) (now terms) used (leftOf s) × Known used (s .bound) (now binds) ⌝ }
-    requires { ⌜ PatternReady (now names) (now pattern) (now numbers) ⌝ }
+    requires ready { ⌜ RunReady (now names) (now terms) used (leftOf s) × Known used (s .bound) (now binds) ⌝ }
+    requires rules { ⌜ PatternReady (now names) (now pattern) (now numbers) ⌝ }
     ensures { λ r.
         let fits = runFits (now (names .entry)) (now (terms .entry)) used (now (pattern .entry)) (now (numbers .entry)) p in
         ⌜ r ≡ fits (s .bound) (now (binds .entry)) (leftOf s) ⌝ }
@@ -235,9 +235,9 @@ pub fn next_split(
     binds: &[u32],
     k: usize,
 ) -> usize
-    requires { ⌜ RunReady (now names) (now terms) used (leftOf s) × Known used (s .bound) (now binds) ⌝ }
-    requires { ⌜ PatternReady (now names) (now pattern) (now numbers) ⌝ }
-    requires { ⌜ k ≤ s .len + 1 ⌝ }
+    requires ready { ⌜ RunReady (now names) (now terms) used (leftOf s) × Known used (s .bound) (now binds) ⌝ }
+    requires rules { ⌜ PatternReady (now names) (now pattern) (now numbers) ⌝ }
+    requires split { ⌜ k ≤ s .len + 1 ⌝ }
     ensures { λ r.
         let fits = splitFits (now (names .entry)) (now (terms .entry)) used (now (pattern .entry)) (now (numbers .entry)) p in
         ⌜ FirstFit (fits (s .bound) (now (binds .entry)) (leftOf s)) k (s .len) r ⌝ }

@@ -12,7 +12,7 @@ use Rattle.term_spec.specs.Words.{Lies, decode, count, encode, write}
 use Rattle.term_spec.specs.WordsLaws.{term-lays, term-keeps, decode-length, decode-part, encode-decode, encode-length, write-length, write-append, write-none}
 use Rattle.view_spec.specs.Node.{meaning, nodesRule, GoodNodes}
 use Rattle.view_spec.specs.NodeLaws.{reach-limit, nodes-more}
-use Rattle.nodes.specs.NodeStore.{nodesIn, AnyStore, Reaches}
+use Rattle.nodes.specs.NodeStore.{nodesIn, NodeStore, AnyStore, Reaches}
 use Rattle.rope.specs.Pieces.{Rest, waiting, Goes, Front, front, terms as over-terms, passed, Below}
 use Rattle.rope.specs.PiecesLaws.{rest, none-wait, Along, Next, along-again, along-long, along-run, along-short, along-next, front-some, along-on}
 
@@ -45,6 +45,17 @@ task-out {terms} {nodes} {nodes-used} below reaches room =
       reaches = reaches;
       room = omega (arith, room);
     }
+
+-- The same where the terms go after the used terms of their own slice.
+pub task-after : {terms : List ℕ} {used : ℕ} {nodes : List ℕ} {nodes-used node len : ℕ} → used ≤ limit → Lies termLayout terms (used + len) → NodeStore nodes used nodes-used
+    → Reaches nodes nodes-used node len → Task terms used nodes nodes-used node len used terms
+task-after few room store reaches = record {
+  there = omega (arith, room);
+  store = record { terms = _; few-terms = few; store = store };
+  good = store .good;
+  reaches = reaches;
+  room = room;
+}
 
 -- The first `done` of them are there, and the others are still to be read.
 pub record Done (terms : List ℕ) (used : ℕ) (nodes : List ℕ) (nodes-used node len base : ℕ) (before : List ℕ) (at : Rest) (after : List ℕ) (done : ℕ) : Type 0 where

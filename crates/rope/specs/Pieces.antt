@@ -10,7 +10,7 @@ use Rattle.term_spec.specs.Term.{Term, Run, termLayout}
 use Rattle.term_spec.specs.Value.{Value}
 use Rattle.view_spec.specs.Build.{ifDec}
 use Rattle.view_spec.specs.Node.{Node, Field, consKind, nodeAt, meaning, holds, GoodNodes}
-use Rattle.nodes.specs.NodeStore.{AnyStore}
+use Rattle.nodes.specs.NodeStore.{nodesIn, NodeStore, AnyStore, Reaches}
 use Rattle.rope.specs.declared.Piece.{Piece}
 
 -- `left` terms of a node after its first `skip`, then the fields `later`.
@@ -55,6 +55,12 @@ pub record Ready (ns : List Node) (r : Rest) : Type 0 where
   pub reached : r .skip + r .left ≤ (nodeAt ns (r .node)) .reach
   pub later : All (Waits ns) (r .later)
 
+-- The same in some store of the words: what a function asks that does not read how many nodes are used.
+pub record ReadyIn (w : List ℕ) (r : Rest) : Type 0 where
+  pub used : ℕ
+  pub store : AnyStore w used
+  pub ready : Ready (nodesIn w used) r
+
 -- What a rope is read over: the terms of a store, or their values.
 pub data Over : Type 0 where
   terms : Over
@@ -78,7 +84,23 @@ pub record Front (ns : List Node) (i k : ℕ) : Type 0 where
   pub cons : (nodeAt ns i) .kind ≡ consKind
   pub inner : k < (nodeAt ns i) .b
 
--- That run, of at most m terms.
+-- The same of a node of the words, in some store of them.
+pub record FrontIn (w : List ℕ) (i k : ℕ) : Type 0 where
+  pub used : ℕ
+  pub store : AnyStore w used
+  pub low : i < used
+  pub begins : Front (nodesIn w used) i k
+
+-- The piece t has the first terms of s, and begins with a run.
+pub record ToRun (ns : List Node) (s t : Rest) : Type 0 where
+  pub goes : Goes ns s t
+  pub begins : Front ns (t .node) (t .skip)
+
+-- The same in every store of the words where s is ready.
+abbrev pub ToRunIn : List ℕ → Rest → Rest → Type 0
+ToRunIn w s t = (used : ℕ) → AnyStore w used → Ready (nodesIn w used) s → ToRun (nodesIn w used) s t
+
+-- The run of at most m terms that begins there.
 unfoldable pub front : List Node → ℕ → ℕ → ℕ → Run
 front ns i k m = record { start = (nodeAt ns i) .a + k; len = min m ((nodeAt ns i) .b - k) }
 
@@ -96,3 +118,21 @@ passed r k again =
 pub record Below (terms nodes : List ℕ) (used : ℕ) : Type 0 where
   pub store : AnyStore nodes used
   pub there : Lies termLayout terms (store .terms)
+
+-- A node of some such store has at least len terms.
+pub record Shows (terms nodes : List ℕ) (node len : ℕ) : Type 0 where
+  pub used : ℕ
+  pub below : Below terms nodes used
+  pub reaches : Reaches nodes used node len
+
+-- A node of some store over so many terms has at least len of them.
+pub record ShowsOf (nodes : List ℕ) (terms node len : ℕ) : Type 0 where
+  pub used : ℕ
+  pub store : NodeStore nodes terms used
+  pub reaches : Reaches nodes used node len
+
+-- Two nodes of a store over so many terms have at least n of them each.
+pub record ShowBoth (nodes : List ℕ) (terms used f g n : ℕ) : Type 0 where
+  pub store : NodeStore nodes terms used
+  pub left : Reaches nodes used f n
+  pub right : Reaches nodes used g n

@@ -228,19 +228,18 @@ cons-at terms ns i p (inr (inl m)) = m
 cons-at terms ns i p (inr (inr m)) = absurd (omega (arith, m .kind2))
 
 -- The run is read from the words.
-module _ (w : List ℕ) (used : ℕ) (st : AnyStore w used) (i k m : ℕ) (low : i < used) (v : Front (nodesIn w used) i k)
-    {n : Node} (e : n ≡ recordAt nodeLayout w i) where
+module _ (w : List ℕ) (used i k : ℕ) (low : i < used) {n : Node} (e : n ≡ recordAt nodeLayout w i) where
   front-is : n ≡ nodeAt (nodesIn w used) i
   front-is = below-at w used i e low
 
-  pub front-fits : (n .a + n .b ≤ limit) × (k < n .b)
-  front-fits =
+  pub front-read : (m : ℕ) {l : ℕ} → l ≡ min m (n .b - k) → record { start = n .a + k; len = l } ≡ front (nodesIn w used) i k m
+  unfolding front
+  front-read m z = rw (z, front-is) refl
+
+  pub front-fits : AnyStore w used → Front (nodesIn w used) i k → (n .a + n .b ≤ limit) × (k < n .b)
+  front-fits st v =
       let z = cons-at (st .terms) (nodesIn w used) i (v .cons) (node-at (st .terms) (nodesIn w used) i (st .store .good) (rw decode-length low)) in
       rw front-is (omega (arith, z .inside-terms, st .few-terms), v .inner)
-
-  pub front-read : {l : ℕ} → l ≡ min m (n .b - k) → record { start = n .a + k; len = l } ≡ front (nodesIn w used) i k m
-  unfolding front
-  front-read z = rw (z, front-is) refl
 
 -- ---- reading ----
 

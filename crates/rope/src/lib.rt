@@ -4,7 +4,7 @@
 use words::Run;
 ghost use mathlib.Core.Path.{_≡_};
 ghost use mathlib.Core.List.{[]};
-ghost use Prim.Native.Nat.{_+_, _-_, _<_, _≤_};
+ghost use Prim.Native.Nat.{ℕ, _+_, _-_, _<_, _≤_};
 ghost use lib.ListN.{length, take, drop};
 ghost use lib.Seq.{sets};
 ghost use Rattle.term_spec.specs.Words.{Lies, decode, records, write};
@@ -12,9 +12,9 @@ ghost use Rattle.term_spec.specs.Term.{termLayout, limit};
 ghost use Rattle.view_spec.specs.Node.{holds};
 ghost use Rattle.view_spec.specs.Read.{equalTerms};
 ghost use Rattle.words.specs.Records.{asRun};
-ghost use Rattle.nodes.specs.NodeStore.{nodesIn, NodeStore, AnyStore, Reaches};
+ghost use Rattle.nodes.specs.NodeStore.{nodesIn, NodeStore, Reaches};
 ghost use Rattle.value.specs.Equal.{TermStore, valuesIn};
-ghost use Rattle.rope.specs.Pieces.{Rest, mostFields, restOf, Ready, Goes, Front, front as frontOf, passed, Below};
+ghost use Rattle.rope.specs.Pieces.{Rest, mostFields, restOf, ReadyIn, ToRunIn, FrontIn, front as frontOf, passed, Below, Shows, ShowsOf, ShowBoth};
 
 // What is to be read next: `left` terms of a node after its first `skip`, then the fields on a stack of `depth` fields, the last one first.
 struct Piece {
@@ -30,14 +30,13 @@ const MOST_FIELDS: usize = 32;
 const STACK_WORDS: usize = 64;
 
 // The same terms, down to a piece that begins with a run. Where the stack is full it is emptied, and the terms of its fields are left out.
-fn to_run(nodes: &[u32], used: usize, stack: &mut [u32; STACK_WORDS], at: Piece) -> Piece
-    requires { let ns = nodesIn (now nodes) used in
-        ⌜ AnyStore (now nodes) used × Ready ns (restOf at (now stack)) × (at .depth ≤ mostFields) ⌝ }
+fn to_run(nodes: &[u32], stack: &mut [u32; STACK_WORDS], at: Piece) -> Piece
+    requires ready { ⌜ ReadyIn (now nodes) (restOf at (now stack)) ⌝ }
+    requires room { ⌜ at .depth ≤ mostFields ⌝ }
     ensures { λ r.
-        let ns = nodesIn (now (nodes .entry)) used in
         let before = restOf at (now (stack .entry)) in
         let after = restOf r (now (stack .exit)) in
-        ⌜ (r .depth ≤ mostFields) × Goes ns before after × Front ns (r .node) (r .skip) ⌝ }
+        ⌜ (r .depth ≤ mostFields) × ToRunIn (now (nodes .entry)) before after ⌝ }
 {
     let mut at = at;
     loop {
@@ -68,10 +67,11 @@ fn to_run(nodes: &[u32], used: usize, stack: &mut [u32; STACK_WORDS], at: Piece)
 }
 
 // The run that such a piece begins with.
-fn front(nodes: &[u32], used: usize, at: Piece) -> Run
-    requires { ⌜ AnyStore (now nodes) used × (at .node < used) × Front (nodesIn (now nodes) used) (at .node) (at .skip) ⌝ }
+fn front(nodes: &[u32], at: Piece) -> Run
+    requires { ⌜ FrontIn (now nodes) (at .node) (at .skip) ⌝ }
     ensures { λ r.
-        ⌜ asRun r ≡ frontOf (nodesIn (now (nodes .entry)) used) (at .node) (at .skip) (at .left) ⌝ }
+        let words = now (nodes .entry) in
+        ⌜ ((used : ℕ) → at .node < used → asRun r ≡ frontOf (nodesIn words used) (at .node) (at .skip) (at .left)) ⌝ }
 {
     let n = words::get_node(nodes, at.node);
     Run {
@@ -126,18 +126,17 @@ pub fn equal_fronts(
     terms: &[u32],
     terms_used: usize,
     nodes: &[u32],
-    nodes_used: usize,
     f: usize,
     g: usize,
     n: usize,
 ) -> bool
-    requires { ⌜ TermStore (now names) (now terms) «terms_used» × («terms_used» ≤ limit) ⌝ }
-    requires { ⌜ NodeStore (now nodes) «terms_used» «nodes_used» ⌝ }
-    requires { ⌜ Reaches (now nodes) «nodes_used» f n × Reaches (now nodes) «nodes_used» g n ⌝ }
+    requires good_terms { ⌜ TermStore (now names) (now terms) «terms_used» × («terms_used» ≤ limit) ⌝ }
+    requires good_nodes { ⌜ ((used : ℕ) × ShowBoth (now nodes) «terms_used» used f g n) ⌝ }
     ensures { λ r.
+        let words = now (nodes .entry) in
         let vs = valuesIn (now (names .entry)) (now (terms .entry)) «terms_used» in
-        let ns = nodesIn (now (nodes .entry)) «nodes_used» in
-        ⌜ r ≡ equalTerms (holds vs ns (record { node = f; len = n })) (holds vs ns (record { node = g; len = n })) ⌝ }
+        ⌜ ((used : ℕ) → ShowBoth words «terms_used» used f g n
+        → r ≡ equalTerms (holds vs (nodesIn words used) (record { node = f; len = n })) (holds vs (nodesIn words used) (record { node = g; len = n }))) ⌝ }
 {
     if f == g {
         return true;
@@ -158,10 +157,10 @@ pub fn equal_fronts(
     };
     let mut done = 0;
     while done < n {
-        a = to_run(nodes, nodes_used, &mut f_stack, a);
-        b = to_run(nodes, nodes_used, &mut g_stack, b);
-        let r = front(nodes, nodes_used, a);
-        let s = front(nodes, nodes_used, b);
+        a = to_run(nodes, &mut f_stack, a);
+        b = to_run(nodes, &mut g_stack, b);
+        let r = front(nodes, a);
+        let s = front(nodes, b);
         let k = nodes::smaller(r.len, s.len);
         if !equality::equal_runs(names, terms, terms_used, r.start, k, s.start, k) {
             return false;
@@ -201,20 +200,17 @@ fn copy_words_up(words: &mut [u32], from: usize, to: usize, n: usize)
 }
 
 // The first len terms of a node become the first records of a work buffer.
-pub fn copy_out(
-    terms: &[u32],
-    nodes: &[u32],
-    nodes_used: usize,
-    node: usize,
-    len: usize,
-    work: &mut [u32],
-)
-    requires { ⌜ Below (now terms) (now nodes) «nodes_used» × Reaches (now nodes) «nodes_used» node len ⌝ }
-    requires { ⌜ Lies termLayout (now work) len ⌝ }
+pub fn copy_out(terms: &[u32], nodes: &[u32], node: usize, len: usize, work: &mut [u32])
+    requires shows { ⌜ Shows (now terms) (now nodes) node len ⌝ }
+    requires room { ⌜ Lies termLayout (now work) len ⌝ }
     ensures { λ _.
-        let ns = nodesIn (now (nodes .entry)) «nodes_used» in
-        let shown = holds (records termLayout (now (terms .entry))) ns (record { node = node; len = len }) in
-        ⌜ now (work .exit) ≡ write termLayout (now (work .entry)) 0 shown ⌝ }
+        let store = now (terms .entry) in
+        let words = now (nodes .entry) in
+        let before = now (work .entry) in
+        let after = now (work .exit) in
+        let ts = records termLayout store in
+        ⌜ ((used : ℕ) → Below store words used → Reaches words used node len
+        → after ≡ write termLayout before 0 (holds ts (nodesIn words used) (record { node = node; len = len }))) ⌝ }
 {
     let mut stack = [0u32; STACK_WORDS];
     let mut at = Piece {
@@ -225,8 +221,8 @@ pub fn copy_out(
     };
     let mut done = 0;
     while done < len {
-        at = to_run(nodes, nodes_used, &mut stack, at);
-        let r = front(nodes, nodes_used, at);
+        at = to_run(nodes, &mut stack, at);
+        let r = front(nodes, at);
         copy_words(
             terms,
             work,
@@ -240,22 +236,17 @@ pub fn copy_out(
 }
 
 // The first len terms of a node become the records after the used terms.
-pub fn copy_after(
-    terms: &mut [u32],
-    terms_used: usize,
-    nodes: &[u32],
-    nodes_used: usize,
-    node: usize,
-    len: usize,
-)
-    requires { ⌜ NodeStore (now nodes) «terms_used» «nodes_used» × («terms_used» ≤ limit) ⌝ }
-    requires { ⌜ Reaches (now nodes) «nodes_used» node len ⌝ }
-    requires { ⌜ Lies termLayout (now terms) («terms_used» + len) ⌝ }
+pub fn copy_after(terms: &mut [u32], terms_used: usize, nodes: &[u32], node: usize, len: usize)
+    requires shows { ⌜ ShowsOf (now nodes) «terms_used» node len ⌝ }
+    requires few { ⌜ «terms_used» ≤ limit ⌝ }
+    requires room { ⌜ Lies termLayout (now terms) («terms_used» + len) ⌝ }
     ensures { λ _.
+        let words = now (nodes .entry) in
         let before = now (terms .entry) in
-        let ns = nodesIn (now (nodes .entry)) «nodes_used» in
-        let shown = holds (decode termLayout «terms_used» before) ns (record { node = node; len = len }) in
-        ⌜ now (terms .exit) ≡ write termLayout before «terms_used» shown ⌝ }
+        let after = now (terms .exit) in
+        let ts = decode termLayout «terms_used» before in
+        ⌜ ((used : ℕ) → NodeStore words «terms_used» used → Reaches words used node len
+        → after ≡ write termLayout before «terms_used» (holds ts (nodesIn words used) (record { node = node; len = len }))) ⌝ }
 {
     let mut stack = [0u32; STACK_WORDS];
     let mut at = Piece {
@@ -266,8 +257,8 @@ pub fn copy_after(
     };
     let mut done = 0;
     while done < len {
-        at = to_run(nodes, nodes_used, &mut stack, at);
-        let r = front(nodes, nodes_used, at);
+        at = to_run(nodes, &mut stack, at);
+        let r = front(nodes, at);
         copy_words_up(
             terms,
             r.start * words::TERM_WIDTH,

@@ -9,7 +9,7 @@ use Prim.Native.Nat.{ℕ, suc, zero, _<_, _≤_}
 use native.Mathlib.Omega.{arith}
 use Rattle.term_spec.specs.BoolLaws.{true-T}
 use Rattle.match_spec.specs.Pattern.{patternLimit}
-use Rattle.calls_spec.specs.Step.{runListLimit}
+use Rattle.term_spec.specs.Term.{runListLimit}
 use Rattle.sheet_spec.specs.Sheet.{sheetTerms, sheetNames, limits}
 use Rattle.sheet_form.specs.Form.{zeros}
 

@@ -112,7 +112,7 @@ pub const MOST_NAMES: usize = 4096;
 
 pub const MOST_ITEMS: usize = items::PATTERN_LIMIT;
 
-pub const MOST_RUNS: usize = 64;
+pub const MOST_RUNS: usize = words::RUN_LIST_LIMIT;
 
 // The counts of a sheet: terms, name bytes, pattern records, runs.
 pub struct Counts {

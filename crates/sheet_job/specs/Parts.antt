@@ -1,12 +1,12 @@
 -- The job of a sheet in the parts that the code has: what is lent, and what is printed for what a call left.
 use mathlib.Core.List.{List, []}
 use Prim.Native.Nat.{ℕ, _*_, _≤_}
-use Rattle.term_spec.specs.Term.{termLayout, runLayout}
+use Rattle.term_spec.specs.Term.{termLayout, runLayout, runListLimit}
 use Rattle.view_spec.specs.Node.{nodeLayout}
 use Rattle.match_spec.specs.Pattern.{itemLayout, patternLimit, nameLimit}
 use Rattle.match_spec.specs.Answer.{allOfThem}
 use Rattle.calls_spec.specs.Store.{Store}
-use Rattle.calls_spec.specs.Step.{callMatch, answerNumber, Effect, quiet, making, effectOf, After, step, nameCount, runListLimit}
+use Rattle.calls_spec.specs.Step.{callMatch, answerNumber, Effect, quiet, making, effectOf, After, step, nameCount}
 use Rattle.sheet_spec.specs.Job.{nodesLent, termsLent, listingSlots, refusalText, listingText}
 use Rattle.sheet_form.specs.Form.{zeros}
 use Rattle.listing.specs.Match.{requestOf}

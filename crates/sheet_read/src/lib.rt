@@ -160,8 +160,8 @@ fn lines_ok(text: &[u8], p: usize, form: LineForm, n: usize) -> bool
 
 // The numbers of a line go to the words from w on.
 fn read_numbers(text: &[u8], p: usize, kept: usize, out: &mut [u32], w: usize)
-    requires { ⌜ (p + columnWidth * kept ≤ length (now text)) × (w + kept ≤ length (now out)) ⌝ }
-    requires { ⌜ T (numbersOk (now text) p kept) ⌝ }
+    requires fits { ⌜ (p + columnWidth * kept ≤ length (now text)) × (w + kept ≤ length (now out)) ⌝ }
+    requires in_form { ⌜ T (numbersOk (now text) p kept) ⌝ }
     ensures { λ _. ⌜ now (out .exit) ≡ laidAt (now (out .entry)) w (numbersAt (now (text .entry)) p kept) ⌝ }
 {
     let mut i = 0;
@@ -173,8 +173,8 @@ fn read_numbers(text: &[u8], p: usize, kept: usize, out: &mut [u32], w: usize)
 
 // The numbers of n lines go to the first words.
 fn read_lines(text: &[u8], p: usize, form: LineForm, n: usize, out: &mut [u32])
-    requires { ⌜ (p + lineWidth (form .kept) (form .zeros) * n ≤ length (now text)) × Short form × (form .kept * n ≤ length (now out)) ⌝ }
-    requires { ⌜ T (linesOk (now text) p (form .kept) (form .zeros) n) ⌝ }
+    requires fits { ⌜ (p + lineWidth (form .kept) (form .zeros) * n ≤ length (now text)) × Short form × (form .kept * n ≤ length (now out)) ⌝ }
+    requires in_form { ⌜ T (linesOk (now text) p (form .kept) (form .zeros) n) ⌝ }
     ensures { λ _.
         let shown = wordsAt (now (text .entry)) p (form .kept) (form .zeros) n in
         ⌜ now (out .exit) ≡ laid shown (now (out .entry)) ⌝ }
@@ -239,8 +239,8 @@ fn body_ok(text: &[u8], c: Counts) -> bool
 
 // The lines of a sheet in form go to the first words of three slices.
 fn read_body(text: &[u8], c: Counts, terms: &mut [u32], pattern: &mut [u32], runs: &mut [u32])
-    requires { ⌜ InForm (now text) (asCounts c) ⌝ }
-    requires { ⌜ Holds (asCounts c) (now terms) (now pattern) (now runs) ⌝ }
+    requires in_form { ⌜ InForm (now text) (asCounts c) ⌝ }
+    requires room { ⌜ Holds (asCounts c) (now terms) (now pattern) (now runs) ⌝ }
     ensures { λ _.
         let sheet = sheetAt (now (text .entry)) (asCounts c) in
         let words = filled sheet (now (terms .entry)) (now (pattern .entry)) (now (runs .entry)) in

@@ -7,9 +7,8 @@ use lib.ListN.{length, take, drop, getD, replicate}
 use Prim.Native.Nat.{ℕ, suc, zero, _+_, _-_, _*_, _/_, _%_, min}
 use Rattle.term_spec.specs.Text.{isDigit}
 use Rattle.term_spec.specs.Words.{count, whole}
-use Rattle.term_spec.specs.Term.{termLayout, runLayout}
+use Rattle.term_spec.specs.Term.{termLayout, runLayout, runListLimit}
 use Rattle.match_spec.specs.Pattern.{itemLayout, patternLimit}
-use Rattle.calls_spec.specs.Step.{runListLimit}
 
 -- ---- the lines, and where they stand in the text ----
 

@@ -109,8 +109,8 @@ fn next(s: State) -> Turned
 
 // A literal: the first term equals it.
 fn turn_literal(names: &[u8], terms: &[u32], t: Item, s: State) -> Turned
-    requires { ⌜ InStore (now names) (now terms) (leftOf s) ⌝ }
-    requires { ⌜ T (itemRuleK (t .kind) (now names) (asItem t)) × (t .kind < openKind) ⌝ }
+    requires store { ⌜ InStore (now names) (now terms) (leftOf s) ⌝ }
+    requires rule { ⌜ T (itemRuleK (t .kind) (now names) (asItem t)) × (t .kind < openKind) ⌝ }
     ensures { λ r.
         let element = coded (now (names .entry)) (asItem t) in
         let due = turnAt (now (names .entry)) (now (terms .entry)) in
@@ -198,8 +198,8 @@ fn turn_single(
     s: State,
     binds: &mut [u32],
 ) -> Turned
-    requires { ⌜ RunReady (now names) (now terms) used (leftOf s) × Known used (s .bound) (now binds) ⌝ }
-    requires { ⌜ (symbolVariableKind ≤ t .kind) × (t .kind ≤ termVariableKind) × (x ≤ s .bound) × (x < nameLimit) ⌝ }
+    requires ready { ⌜ RunReady (now names) (now terms) used (leftOf s) × Known used (s .bound) (now binds) ⌝ }
+    requires variable { ⌜ (symbolVariableKind ≤ t .kind) × (t .kind ≤ termVariableKind) × (x ≤ s .bound) × (x < nameLimit) ⌝ }
     ensures { λ r.
         let element = coded (now (names .entry)) (asItem t) x in
         let due = turnAt (now (names .entry)) (now (terms .entry)) used element in
@@ -237,8 +237,8 @@ fn turn_expression(
     s: State,
     binds: &mut [u32],
 ) -> Turned
-    requires { ⌜ RunReady (now names) (now terms) used (leftOf s) × Known used (s .bound) (now binds) ⌝ }
-    requires { ⌜ (x ≤ s .bound) × (x < nameLimit) ⌝ }
+    requires ready { ⌜ RunReady (now names) (now terms) used (leftOf s) × Known used (s .bound) (now binds) ⌝ }
+    requires variable { ⌜ (x ≤ s .bound) × (x < nameLimit) ⌝ }
     ensures { λ r.
         let due = turnAt (now (names .entry)) (now (terms .entry)) used (many x) last in
         let before = now (binds .entry) in
@@ -299,8 +299,8 @@ pub fn turn(
     levels: &mut [u32],
     binds: &mut [u32],
 ) -> Turned
-    requires { ⌜ TermStore (now names) (now terms) used × (used ≤ limit) × Stands used (placeOf s (now levels) (now binds)) ⌝ }
-    requires { ⌜ T (itemRuleK (t .kind) (now names) (asItem t)) × Fine (t .kind) x (s .depth) (s .bound) ⌝ }
+    requires store { ⌜ TermStore (now names) (now terms) used × (used ≤ limit) × Stands used (placeOf s (now levels) (now binds)) ⌝ }
+    requires rule { ⌜ T (itemRuleK (t .kind) (now names) (asItem t)) × Fine (t .kind) x (s .depth) (s .bound) ⌝ }
     ensures { λ r.
         let element = coded (now (names .entry)) (asItem t) x in
         let due = turnAt (now (names .entry)) (now (terms .entry)) used element last in

@@ -81,6 +81,10 @@ expressionUnknown = 2
 abbrev pub limit : ℕ
 limit = 65536
 
+-- "a run list has over 64 runs" (1).
+abbrev pub runListLimit : ℕ
+runListLimit = 64
+
 -- The deepest that brackets of terms lie: "c is its depth .. at most 255".
 abbrev pub depthLimit : ℕ
 depthLimit = 255

@@ -101,8 +101,8 @@ fn deepen(table: &mut [u8], k: usize, d: usize)
 // Term i goes into the tables: its depth counts in its low and its high block. Only a bracket has one.
 fn enter(low: &mut [u8], high: &mut [u8], i: usize, t: Term)
     requires { ⌜ (i < length (now low) * lowBlock) × (i < length (now high) * highBlock) × (depthK (t .kind) (asTerm t) ≤ depthLimit) ⌝ }
-    ensures { λ _. ⌜ now (low .exit) ≡ deepened (now (low .entry)) (i / lowBlock) (depthK (t .kind) (asTerm t)) ⌝ }
-    ensures { λ _. ⌜ now (high .exit) ≡ deepened (now (high .entry)) (i / highBlock) (depthK (t .kind) (asTerm t)) ⌝ }
+    ensures low_block { λ _. ⌜ now (low .exit) ≡ deepened (now (low .entry)) (i / lowBlock) (depthK (t .kind) (asTerm t)) ⌝ }
+    ensures high_block { λ _. ⌜ now (high .exit) ≡ deepened (now (high .entry)) (i / highBlock) (depthK (t .kind) (asTerm t)) ⌝ }
 {
     if t.kind != words::BRACKET {
         return;
@@ -131,9 +131,9 @@ fn one_term(terms: &[u32], p: usize) -> Part
 
 // What `deepest` takes at once of the n terms from p on: a whole block where one starts and ends within them, else one term.
 fn first_part(terms: &[u32], low: &[u8], high: &[u8], p: usize, n: usize) -> Part
-    requires { ⌜ Lies termLayout (now terms) (p + n) ⌝ }
-    requires { ⌜ Blocks (now terms) (p + n) (now low) (now high) ⌝ }
-    requires { ⌜ 0 < n ⌝ }
+    requires lies { ⌜ Lies termLayout (now terms) (p + n) ⌝ }
+    requires blocks { ⌜ Blocks (now terms) (p + n) (now low) (now high) ⌝ }
+    requires some { ⌜ 0 < n ⌝ }
     ensures { λ r. ⌜ Covers (now (terms .entry)) p n (r .len) (r .deep) ⌝ }
 {
     if n < LOW_BLOCK {
@@ -158,8 +158,8 @@ fn first_part(terms: &[u32], low: &[u8], high: &[u8], p: usize, n: usize) -> Par
 
 // The deepest bracket among the n terms from s on, 0 if there is none.
 fn deepest(terms: &[u32], low: &[u8], high: &[u8], s: usize, n: usize) -> usize
-    requires { ⌜ Lies termLayout (now terms) (s + n) ⌝ }
-    requires { ⌜ Blocks (now terms) (s + n) (now low) (now high) ⌝ }
+    requires lies { ⌜ Lies termLayout (now terms) (s + n) ⌝ }
+    requires blocks { ⌜ Blocks (now terms) (s + n) (now low) (now high) ⌝ }
     ensures { λ r. ⌜ r ≡ deepestOf (runOf (now (terms .entry)) s n) ⌝ }
 {
     let mut deep: usize = 0;
@@ -177,8 +177,8 @@ const DEPTH_LIMIT: usize = 255;
 
 // The rule of a bracket with number i: contents below it, its exact depth.
 fn bracket_ok(terms: &[u32], low: &[u8], high: &[u8], i: usize, t: Term) -> bool
-    requires { ⌜ Lies termLayout (now terms) i ⌝ }
-    requires { ⌜ Blocks (now terms) i (now low) (now high) ⌝ }
+    requires lies { ⌜ Lies termLayout (now terms) i ⌝ }
+    requires blocks { ⌜ Blocks (now terms) i (now low) (now high) ⌝ }
     ensures { λ r. ⌜ r ≡ bracketRule (decode termLayout i (now (terms .entry))) (asTerm t) ⌝ }
 {
     if i < t.b {
@@ -198,8 +198,8 @@ fn bracket_ok(terms: &[u32], low: &[u8], high: &[u8], i: usize, t: Term) -> bool
 
 // The rule of a term with number i among those below it.
 fn term_ok(names: &[u8], terms: &[u32], low: &[u8], high: &[u8], i: usize, t: Term) -> bool
-    requires { ⌜ Lies termLayout (now terms) i ⌝ }
-    requires { ⌜ Blocks (now terms) i (now low) (now high) ⌝ }
+    requires lies { ⌜ Lies termLayout (now terms) i ⌝ }
+    requires blocks { ⌜ Blocks (now terms) i (now low) (now high) ⌝ }
     ensures { λ r. ⌜ r ≡ termRule (now (names .entry)) (decode termLayout i (now (terms .entry))) (asTerm t) ⌝ }
 {
     if t.kind < words::BRACKET {
@@ -217,9 +217,9 @@ fn term_ok(names: &[u8], terms: &[u32], low: &[u8], high: &[u8], i: usize, t: Te
 // The rule of the used terms. The tables are lent with no terms in them; each term that keeps its rule goes into them, so that they
 // have all terms below the next.
 fn all_ok(names: &[u8], terms: &[u32], used: usize, low: &mut [u8], high: &mut [u8]) -> bool
-    requires { ⌜ Lies termLayout (now terms) used ⌝ }
-    requires { ⌜ (used ≤ length (now low) * lowBlock) × (used ≤ length (now high) * highBlock) ⌝ }
-    requires { ⌜ Tables (now terms) 0 (now low) (now high) ⌝ }
+    requires lies { ⌜ Lies termLayout (now terms) used ⌝ }
+    requires room { ⌜ (used ≤ length (now low) * lowBlock) × (used ≤ length (now high) * highBlock) ⌝ }
+    requires tables { ⌜ Tables (now terms) 0 (now low) (now high) ⌝ }
     ensures { λ r. ⌜ r ≡ termsRule (now (names .entry)) [] (decode termLayout used (now (terms .entry))) ⌝ }
 {
     let mut i = 0;
@@ -275,8 +275,8 @@ pub fn check_terms(names: &[u8], terms: &[u32], used: usize) -> usize
 
 // Whether two terms of one kind are equal, a bracket being no such term.
 pub fn equal_symbols(names: &[u8], t: Term, u: Term) -> bool
-    requires { ⌜ Texts (now names) (asTerm t) (asTerm u) ⌝ }
-    requires { ⌜ (t .kind ≡ u .kind) × (t .kind ≡ bracketKind → ⊥) ⌝ }
+    requires texts { ⌜ Texts (now names) (asTerm t) (asTerm u) ⌝ }
+    requires kinds { ⌜ (t .kind ≡ u .kind) × (t .kind ≡ bracketKind → ⊥) ⌝ }
     ensures { λ r. ⌜ r ≡ equalSymbols (now (names .entry)) (asTerm t) (asTerm u) ⌝ }
 {
     if t.kind == words::IDENTIFIER {
@@ -299,8 +299,8 @@ pub fn equal_symbols(names: &[u8], t: Term, u: Term) -> bool
 
 // Whether a literal of a pattern (kinds 0 to 2) and a term are equal. An unknown or a bracket is none.
 pub fn symbol_matches(names: &[u8], literal: Term, t: Term) -> bool
-    requires { ⌜ Texts (now names) (asTerm literal) (asTerm t) ⌝ }
-    requires { ⌜ literal .kind < bracketKind ⌝ }
+    requires texts { ⌜ Texts (now names) (asTerm literal) (asTerm t) ⌝ }
+    requires symbol { ⌜ literal .kind < bracketKind ⌝ }
     ensures { λ r. ⌜ r ≡ equalSymbols (now (names .entry)) (asTerm literal) (asTerm t) ⌝ }
 {
     if literal.kind != t.kind {

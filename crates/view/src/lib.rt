@@ -115,8 +115,8 @@ fn node_room(nodes: &[u32], used: usize, made: usize) -> bool
 
 // The runs of a list as one field of `len` terms, if the nodes fit.
 fn chained(nodes: &mut [u32], count: &mut usize, runs: &[u32], len: usize) -> Answer
-    requires { ⌜ RunStore (now nodes) (now count) (now runs) ⌝ }
-    requires { ⌜ len ≡ total (records runLayout (now runs)) ⌝ }
+    requires store { ⌜ RunStore (now nodes) (now count) (now runs) ⌝ }
+    requires size { ⌜ len ≡ total (records runLayout (now runs)) ⌝ }
     ensures { λ r.
         let before = now (nodes .entry) in
         let used = now (count .entry) in
@@ -208,8 +208,8 @@ pub fn take(
 
 // The field without its first k terms, if the nodes fit.
 fn dropped(nodes: &mut [u32], count: &mut usize, f: Field, k: usize) -> Answer
-    requires { ⌜ AnyStore (now nodes) (now count) ⌝ }
-    requires { ⌜ Reaches (now nodes) (now count) (f .node) (f .len) × (k ≤ f .len) ⌝ }
+    requires store { ⌜ AnyStore (now nodes) (now count) ⌝ }
+    requires reaches { ⌜ Reaches (now nodes) (now count) (f .node) (f .len) × (k ≤ f .len) ⌝ }
     ensures { λ r.
         let before = now (nodes .entry) in
         let used = now (count .entry) in
@@ -217,7 +217,7 @@ fn dropped(nodes: &mut [u32], count: &mut usize, f: Field, k: usize) -> Answer
         ⌜ (answerOf r, now (nodes .exit), now (count .exit)) ≡ grownBy before used built ⌝ }
 {
     let used = *count;
-    let made = drop_front::drop_front_makes(nodes, used, f.node, k);
+    let made = drop_front::drop_front_makes(nodes, f.node, k);
     if !node_room(nodes, used, made) {
         return Answer::Refused(refusal::NODES_FULL);
     }
@@ -303,9 +303,9 @@ pub fn range(
 
 // The left's terms, then the right's, if the nodes fit. An empty operand gives the other as it is.
 fn joined(nodes: &mut [u32], count: &mut usize, f: Field, g: Field) -> Answer
-    requires { ⌜ AnyStore (now nodes) (now count) ⌝ }
-    requires { ⌜ Reaches (now nodes) (now count) (f .node) (f .len) ⌝ }
-    requires { ⌜ Reaches (now nodes) (now count) (g .node) (g .len) × (f .len + g .len ≤ limit) ⌝ }
+    requires store { ⌜ AnyStore (now nodes) (now count) ⌝ }
+    requires left { ⌜ Reaches (now nodes) (now count) (f .node) (f .len) ⌝ }
+    requires right { ⌜ Reaches (now nodes) (now count) (g .node) (g .len) × (f .len + g .len ≤ limit) ⌝ }
     ensures { λ r.
         let before = now (nodes .entry) in
         let used = now (count .entry) in
@@ -319,9 +319,9 @@ fn joined(nodes: &mut [u32], count: &mut usize, f: Field, g: Field) -> Answer
         return Answer::Built(f);
     }
     let used = *count;
-    let right = nodes::unclamp(nodes, used, g.node, g.len);
+    let right = nodes::unclamp(nodes, g.node, g.len);
     let r = words::get_node(nodes, right);
-    let made = join::join_makes(nodes, used, r.height, f.node, f.len);
+    let made = join::join_makes(nodes, r.height, f.node, f.len);
     if !node_room(nodes, used, made) {
         return Answer::Refused(refusal::NODES_FULL);
     }

@@ -20,6 +20,7 @@ use Rattle.nodes.specs.NodeStore.{nodesIn}
 use Rattle.value.specs.Equal.{valuesIn}
 use Rattle.view.specs.Check.{numbered, checked, leaves}
 use Rattle.view.specs.StepLaws.{ordered, two-fields, left-refused, input-refused, input-passed, step-done, Usable, usable-both}
+use Rattle.rope.specs.Pieces.{ShowBoth}
 
 -- ---- what a call leaves that compares two fields ----
 
@@ -82,6 +83,11 @@ field-front s f k h = sym (take-take k (f .len) (meaning (spelled s) (nodes s) (
 field-all : (s : Store) (f : Field) → front s (f .node) (f .len) ≡ fieldTerms s f
 unfolding fieldTerms spelled nodes terms
 field-all s f = refl
+
+-- Both fields have as many terms as are compared.
+pub both-show : {s : Store} {f g : Field} → Usable s f → Usable s g → g .len ≤ f .len
+    → ShowBoth (s .nodeWords) (s .termsUsed) (s .nodesUsed) (f .node) (g .node) (g .len)
+both-show u v h = record { store = u .store; left = record { low = u .low; fits = omega (arith, u .within) }; right = record { low = v .low; fits = v .within } }
 
 -- ---- the exits of the code ----
 

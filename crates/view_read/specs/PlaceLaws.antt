@@ -19,7 +19,8 @@ use Rattle.calls_spec.specs.Step.{Answer, refused, inStore, inWork, callFlatten
 use Rattle.nodes.specs.NodeStore.{nodesIn, NodeStore}
 use Rattle.nodes.specs.RuleLaws.{below-at}
 use Rattle.view.specs.Check.{numbered, checked}
-use Rattle.view.specs.StepLaws.{ordered, one-field, input-refused, input-passed, step-refused, step-full, step-done, usable}
+use Rattle.view.specs.StepLaws.{ordered, one-field, input-refused, input-passed, step-refused, step-full, step-done, Usable, usable}
+use Rattle.rope.specs.Pieces.{Below}
 use Rattle.view_read.specs.Read.{leavesWork, settledIf, settledBy}
 
 -- ---- the place, by the field's node ----
@@ -61,6 +62,10 @@ all-terms w used v m f there st =
     let first : take used all ≡ decode termLayout used w = decode-part termLayout (length w / termLayout .width) 0 used w (omega arith) in
     ap (λ ts. holds ts (nodesIn v m) f) (sym (take-append-drop used all) ∙ ap (_++ drop used all) first)
     ∙ holds-more (decode termLayout used w) (drop used all) (nodesIn v m) f (rw decode-length (st .good))
+
+-- The nodes of a usable field are over the terms of the slice.
+pub below-terms : {s : Store} {f : Field} → Usable s f → Below (s .termWords) (s .nodeWords) (s .nodesUsed)
+below-terms {s} u = record { store = record { terms = s .termsUsed; few-terms = u .terms; store = u .store }; there = u .values .fits }
 
 -- ---- flatten: one law for each exit ----
 

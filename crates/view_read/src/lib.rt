@@ -4,13 +4,14 @@ use view::Field;
 use words::Run;
 use words::refusal;
 ghost use mathlib.Core.Path.{_≡_};
-ghost use Prim.Native.Nat.{_<_, _≤_};
+ghost use Prim.Native.Nat.{ℕ, _+_, _<_, _≤_};
 ghost use Rattle.term_spec.specs.Words.{Lies, decode};
 ghost use Rattle.term_spec.specs.Term.{termLayout, limit};
-ghost use Rattle.view_spec.specs.Node.{nodeLayout, nodeAt};
+ghost use Rattle.view_spec.specs.Node.{nodeLayout};
 ghost use Rattle.view_spec.specs.Read.{place, copy, settledRun};
 ghost use Rattle.calls_spec.specs.Step.{callStartsWith, callEqual, callFlatten, step};
-ghost use Rattle.nodes.specs.NodeStore.{nodesIn, NodeStore};
+ghost use Rattle.nodes.specs.NodeStore.{nodesIn, NodeStore, Reaches};
+ghost use Rattle.rope.specs.Pieces.{ShowsOf};
 ghost use Rattle.view.specs.Check.{asField, storeOf, leaves};
 ghost use Rattle.view_read.specs.Read.{verdictOf, placeOf, flatOf, leavesWork, flatWords, settledOf, settledBy};
 
@@ -44,16 +45,7 @@ pub fn starts_with(
     if f.len < g.len {
         return Verdict::No;
     }
-    if rope::equal_fronts(
-        names,
-        terms,
-        terms_used,
-        nodes,
-        nodes_used,
-        f.node,
-        g.node,
-        g.len,
-    ) {
+    if rope::equal_fronts(names, terms, terms_used, nodes, f.node, g.node, g.len) {
         return Verdict::Yes;
     }
     Verdict::No
@@ -80,16 +72,7 @@ pub fn equal(
     if f.len != g.len {
         return Verdict::No;
     }
-    if rope::equal_fronts(
-        names,
-        terms,
-        terms_used,
-        nodes,
-        nodes_used,
-        f.node,
-        g.node,
-        g.len,
-    ) {
+    if rope::equal_fronts(names, terms, terms_used, nodes, f.node, g.node, g.len) {
         return Verdict::Yes;
     }
     Verdict::No
@@ -104,9 +87,10 @@ pub enum Place {
 }
 
 // The store when the node is one Cons with Nil tail or the length is 0.
-fn place_of(nodes: &[u32], used: usize, f: Field) -> Place
-    requires { ⌜ Lies nodeLayout (now nodes) used × (f .node < used) ⌝ }
-    ensures { λ r. ⌜ placeOf r ≡ place (nodesIn (now (nodes .entry)) used) (asField f) ⌝ }
+fn place_of(nodes: &[u32], f: Field) -> Place
+    requires { ⌜ Lies nodeLayout (now nodes) (f .node + 1) ⌝ }
+    ensures { λ r.
+        ⌜ ((used : ℕ) → f .node < used → placeOf r ≡ place (nodesIn (now (nodes .entry)) used) (asField f)) ⌝ }
 {
     if f.len == 0 {
         return Place::Stored(Run { start: 0, len: 0 });
@@ -158,13 +142,13 @@ pub fn flatten(
     if number != 0 {
         return Flat::Refused(number);
     }
-    match place_of(nodes, nodes_used, f) {
+    match place_of(nodes, f) {
         Place::Stored(r) => Flat::InStore(r),
         Place::Scattered => {
             if work.len() / words::TERM_WIDTH < f.len {
                 return Flat::Refused(refusal::WORK_SHORT);
             }
-            rope::copy_out(terms, nodes, nodes_used, f.node, f.len, work);
+            rope::copy_out(terms, nodes, f.node, f.len, work);
             Flat::InWork(f.len)
         }
     }
@@ -206,26 +190,20 @@ pub enum Settled {
 }
 
 // A field's terms as a run of the store, copied after the used terms where they are scattered.
-pub fn settle(
-    terms: &mut [u32],
-    terms_used: &mut usize,
-    nodes: &[u32],
-    nodes_used: usize,
-    f: Field,
-) -> Settled
-    requires { ⌜ Lies termLayout (now terms) (now «terms_used») × (now «terms_used» ≤ limit) ⌝ }
-    requires { ⌜ NodeStore (now nodes) (now «terms_used») «nodes_used» ⌝ }
-    requires { ⌜ (f .node < «nodes_used») × (f .len ≤ (nodeAt (nodesIn (now nodes) «nodes_used») (f .node)) .reach) ⌝ }
+pub fn settle(terms: &mut [u32], terms_used: &mut usize, nodes: &[u32], f: Field) -> Settled
+    requires lies { ⌜ Lies termLayout (now terms) (now «terms_used») × (now «terms_used» ≤ limit) ⌝ }
+    requires shows { ⌜ ShowsOf (now nodes) (now «terms_used») (f .node) (f .len) ⌝ }
     ensures { λ r.
         let before = now (terms .entry) in
         let used = now («terms_used» .entry) in
         let ts = decode termLayout used before in
-        let ns = nodesIn (now (nodes .entry)) «nodes_used» in
-        let left = settledBy before used (copy ts ns (asField f)) (settledRun ts ns (asField f)) in
-        ⌜ (settledOf r, now (terms .exit), now («terms_used» .exit)) ≡ left ⌝ }
+        let words = now (nodes .entry) in
+        ⌜ ((m : ℕ) → NodeStore words used m → Reaches words m (f .node) (f .len)
+        → (settledOf r, now (terms .exit), now («terms_used» .exit))
+        ≡ settledBy before used (copy ts (nodesIn words m) (asField f)) (settledRun ts (nodesIn words m) (asField f))) ⌝ }
 {
     let used = *terms_used;
-    match place_of(nodes, nodes_used, f) {
+    match place_of(nodes, f) {
         Place::Stored(r) => Settled::At(r),
         Place::Scattered => {
             if words::LIMIT - used < f.len {
@@ -234,7 +212,7 @@ pub fn settle(
             if terms.len() / words::TERM_WIDTH - used < f.len {
                 return Settled::Refused(refusal::TERMS_FULL);
             }
-            rope::copy_after(terms, used, nodes, nodes_used, f.node, f.len);
+            rope::copy_after(terms, used, nodes, f.node, f.len);
             *terms_used = used + f.len;
             Settled::At(Run {
                 start: used,

@@ -37,6 +37,9 @@ pub struct Run {
 // "At most 65,536 terms", nodes, name bytes, and terms in a field.
 pub const LIMIT: usize = 65536;
 
+// The most runs of a list.
+pub const RUN_LIST_LIMIT: usize = 64;
+
 // The kinds of terms.
 pub const CHAR: usize = 0;
 

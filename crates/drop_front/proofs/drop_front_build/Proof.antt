@@ -1,6 +1,5 @@
 -- `drop_front_build`: the way down keeps `Down`; at a stay or a cut it is at the bottom, and completing what was reserved ends as promised.
 use borrow.Author.Needs.{needs}
-use Rattle.drop_front.specs.StopLaws.{stop-as}
 use Rattle.drop_front.specs.BuildLaws.{Down, Bottom, AtCut, AtUnder, down-start, down-store, down-reaches, at-stay, at-cut, at-under}
 use Rattle.drop_front.proofs.drop_front_build.Statement.{statement}
 use Rattle.drop_front.proofs.drop_front_build.Tie as tie
@@ -17,10 +16,12 @@ loop-holds c = let asked = c .before .pre in down-start _ _ _ _ _ (asked .0) (as
 stop-at-requires : tie.Need-stop-at-requires Inv-loop μ-loop
 stop-at-requires c κs =
     let at-loop = c .before in
-    let asked = at-loop .before .before .pre in (
-      down-store _ _ _ _ _ (asked .0) (asked .1 .0) (asked .1 .1) _ _ _ _ (at-loop .loop .inv),
-      down-reaches _ _ _ _ _ (asked .0) (asked .1 .0) (asked .1 .1) _ _ _ _ (at-loop .loop .inv),
-    )
+    let asked = at-loop .before .before .pre in
+    record {
+      used = _;
+      store = down-store _ _ _ _ _ (asked .0) (asked .1 .0) (asked .1 .1) _ _ _ _ (at-loop .loop .inv);
+      reaches = down-reaches _ _ _ _ _ (asked .0) (asked .1 .0) (asked .1 .1) _ _ _ _ (at-loop .loop .inv);
+    }
 
 -- the bottom at a stay
 stays : (c : tie.After-known-told Inv-loop μ-loop)
@@ -32,7 +33,7 @@ stays c =
     let at-stop = found .before .before in
     let at-loop = at-stop .before .before in
     let asked = at-loop .before .before .pre in
-    at-stay _ _ _ _ _ (asked .0) (asked .1 .0) (asked .1 .1) _ _ _ _ (at-loop .loop .inv) _ (stop-as _ _ _ (found .x .given .1) (at-stop .stop-at .ensures))
+    at-stay _ _ _ _ _ (asked .0) (asked .1 .0) (asked .1 .1) _ _ _ _ (at-loop .loop .inv) _ (found .x .given .1) (at-stop .stop-at .ensures)
 
 complete-requires : tie.Need-complete-requires Inv-loop μ-loop
 complete-requires c κs = stays (c .before) .asks
@@ -54,7 +55,7 @@ cuts c =
     let at-stop = found .before .before in
     let at-loop = at-stop .before .before in
     let asked = at-loop .before .before .pre in
-    at-cut _ _ _ _ _ (asked .0) (asked .1 .0) (asked .1 .1) _ _ _ _ (at-loop .loop .inv) _ _ _ (stop-as _ _ _ (found .a .given .1) (at-stop .stop-at .ensures))
+    at-cut _ _ _ _ _ (asked .0) (asked .1 .0) (asked .1 .1) _ _ _ _ (at-loop .loop .inv) _ _ _ (found .a .given .1) (at-stop .stop-at .ensures)
 
 make-cons-requires : tie.Need-make-cons-requires Inv-loop μ-loop
 make-cons-requires c κs =
@@ -91,7 +92,7 @@ goes c =
     let at-loop = at-stop .before .before in
     let asked = at-loop .before .before .pre in
     at-under _ _ _ _ _ (asked .0) (asked .1 .0) (asked .1 .1) _ _ _ _ (at-loop .loop .inv) _ _ _ _
-    (stop-as _ _ _ (found .x2 .given .1) (at-stop .stop-at .ensures))
+    (found .x2 .given .1) (at-stop .stop-at .ensures)
 
 sub-hi : tie.Need-sub-hi Inv-loop μ-loop
 sub-hi c = goes c .some-left

@@ -22,7 +22,7 @@ loop-holds : tie.Need-loop-holds Inv-loop μ-loop
 loop-holds c = let asked = c .before .before .before .pre in down-start _ _ _ _ _ _ (c .get-node .ensures) (asked .0) (asked .1 .0) (asked .1 .1)
 
 next-turn-requires : tie.Need-next-turn-requires Inv-loop μ-loop
-next-turn-requires c κs = let d = c .before .loop .inv in (down-store d, rw (d .kept .front) (d .piece))
+next-turn-requires c κs = let d = c .before .loop .inv in record { used = _; store = down-store d; piece = rw (d .kept .front) (d .piece) }
 
 -- ---- the base ----
 

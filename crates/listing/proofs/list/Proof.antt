@@ -37,7 +37,7 @@ settle-requires : tie.Need-settle-requires
 settle-requires c κs =
     let at-passed = c .before .before .before .before .before .before .before in
     let y = within-8 _ _ _ _ (at-passed .before .refusal .ensures) (at-passed .if1 .left) in
-    ((y .values .fits, y .terms), (y .store, (y .low, y .within)))
+    ((y .values .fits, y .terms), record { used = _; store = y .store; reaches = record { low = y .low; fits = y .within } })
 
 walk-from-requires : tie.Need-walk-from-requires
 unfolding settledOf
@@ -50,9 +50,11 @@ walk-from-requires c κs =
     let at-passed = at-names .before .before .before in
     let a = at-passed .before .before .before .before .before .before .before .before .before .before .args in
     let request = requestOf (asField (a .f)) (a .pattern .now) (a .bindings .now) (a .slots .now) in
+    let y = within-8 _ _ _ _ (at-passed .before .refusal .ensures) (at-passed .if1 .left) in
     let settled = settled-from _ request _ _ _ _ _ _
-    (within-8 _ _ _ _ (at-passed .before .refusal .ensures) (at-passed .if1 .left)) (at-names .number-names .ensures .0) (at-names .number-names .ensures .1) (at-few .if3 .left)
-    (omega (arith, at-names .number-names .kept .1 .1 .1 .0, length-replicate {A = ℕ} 256 0)) (at-settle .settle .ensures) (ap settledOf (at-run .run .given .1)) in (
+    y (at-names .number-names .ensures .0) (at-names .number-names .ensures .1) (at-few .if3 .left)
+    (omega (arith, at-names .number-names .kept .1 .1 .1 .0, length-replicate {A = ℕ} 256 0))
+    (at-settle .settle .ensures _ (y .store) (record { low = y .low; fits = y .within })) (ap settledOf (at-run .run .given .1)) in (
       search needs,
       (ready-start _ request _ _ _ _ _ settled (a .slots .now), rw (at-cap .slots-in .ensures) (slots-start _ request _ _ _ _ _ settled (a .slots .now) (a .head))),
     )
@@ -63,8 +65,9 @@ returns-4 c =
     let at-settle = c .before .before .before .before .before in
     let at-names = at-settle .before .before .before .before .before in
     let at-passed = at-names .before .before .before in
-    exit-full _ _ _ (at-passed .before .refusal .ensures) (at-passed .if1 .left) (at-names .number-names .ensures .0) (search needs) _ _ _ _ (at-settle .settle .ensures)
-    (ap settledOf (c .before .n .given .1))
+    let y = within-8 _ _ _ _ (at-passed .before .refusal .ensures) (at-passed .if1 .left) in
+    exit-full _ _ _ (at-passed .before .refusal .ensures) (at-passed .if1 .left) (at-names .number-names .ensures .0) (search needs) _ _ _ _
+    (at-settle .settle .ensures _ (y .store) (record { low = y .low; fits = y .within })) (ap settledOf (c .before .n .given .1))
 
 returns-5 : tie.Need-returns-5
 unfolding settledOf
@@ -77,10 +80,12 @@ returns-5 c =
     let at-names = at-few .before .before in
     let at-passed = at-names .before .before .before in
     let a = at-passed .before .before .before .before .before .before .before .before .before .before .args in
+    let y = within-8 _ _ _ _ (at-passed .before .refusal .ensures) (at-passed .if1 .left) in
     exit-done _ _ _ (at-passed .before .refusal .ensures) (at-passed .if1 .left) _ _ _ _ _
     (settled-from _ (requestOf (asField (a .f)) (a .pattern .now) (a .bindings .now) (a .slots .now)) _ _ _ _ _ _
-    (within-8 _ _ _ _ (at-passed .before .refusal .ensures) (at-passed .if1 .left)) (at-names .number-names .ensures .0) (at-names .number-names .ensures .1) (at-few .if3 .left)
-    (omega (arith, at-names .number-names .kept .1 .1 .1 .0, length-replicate {A = ℕ} 256 0)) (at-settle .settle .ensures) (ap settledOf (at-run .run .given .1)))
+    y (at-names .number-names .ensures .0) (at-names .number-names .ensures .1) (at-few .if3 .left)
+    (omega (arith, at-names .number-names .kept .1 .1 .1 .0, length-replicate {A = ℕ} 256 0))
+    (at-settle .settle .ensures _ (y .store) (record { low = y .low; fits = y .within })) (ap settledOf (at-run .run .given .1)))
     _ refl _ _ (at-cap .slots-in .ensures) refl (at-walk .walk-from .ensures) (search needs) (c .answer .ensures)
 
 pub list-spec : {M : Type 1} → statement M

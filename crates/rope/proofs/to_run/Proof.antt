@@ -4,25 +4,33 @@ use native.Mathlib.Omega.{arith}
 use mathlib.Core.Path.{refl}
 use mathlib.Core.List.{[], append-nil}
 use lib.ListN.{length, length-set}
-use Prim.Native.Nat.{_+_, _*_, _≤_, _<_}
-use Rattle.nodes.specs.NodeStore.{nodesIn}
-use Rattle.rope.specs.Pieces.{mostFields, restOf, Goes}
+use Prim.Native.Nat.{ℕ, _+_, _*_, _≤_, _<_}
+use Rattle.nodes.specs.NodeStore.{nodesIn, AnyStore}
+use Rattle.rope.specs.Pieces.{mostFields, restOf, Ready, Goes}
 use Rattle.rope.specs.PiecesLaws.{pushed, goes-here, goes-low, goes-on, goes-small, goes-in, goes-split, goes-cut, goes-front, none-wait}
 use Rattle.rope.proofs.to_run.Statement.{statement}
 use Rattle.rope.proofs.to_run.Tie as tie
 
 abbrev Inv-loop : tie.InvT-loop
-Inv-loop nodes used stack₀ at₀ stack at = (at .depth ≤ mostFields) × Goes (nodesIn nodes used) (restOf at₀ stack₀) (restOf at stack)
+Inv-loop nodes stack₀ at₀ stack at =
+    (at .depth ≤ mostFields)
+    × ((used : ℕ) → AnyStore nodes used → Ready (nodesIn nodes used) (restOf at₀ stack₀) → Goes (nodesIn nodes used) (restOf at₀ stack₀) (restOf at stack))
 
 -- A step leads to a lower node, or empties the stack.
 abbrev μ-loop : tie.MeasureT-loop
-μ-loop nodes used stack₀ at₀ stack at = at .node * (mostFields + 1) + at .depth
+μ-loop nodes stack₀ at₀ stack at = at .node * (mostFields + 1) + at .depth
 
 loop-holds : tie.Need-loop-holds Inv-loop μ-loop
-loop-holds c = let asked = c .before .pre in (asked .2, record { ready = asked .1; same = λ o xs g. ([], append-nil _) })
+loop-holds c = (c .before .pre .1, λ used store ready. record { ready = ready; same = λ o xs g. ([], append-nil _) })
+
+-- what goes on from where the loop stands, in the store that is there
+here : (c : tie.At-loop Inv-loop μ-loop)
+    → let start = c .before .before in
+    Goes (nodesIn (start .args .nodes .now) (start .pre .0 .used)) (restOf (start .args .at) (start .args .stack .now)) (restOf (c .loop .at) (c .loop .stack))
+here c = let asked = c .before .before .pre .0 in c .loop .inv .1 _ (asked .store) (asked .ready)
 
 get-node-requires : tie.Need-get-node-requires Inv-loop μ-loop
-get-node-requires c κs = let store = c .before .before .pre .0 in omega (arith, store .store .fits, goes-here _ _ store (c .loop .inv .1) refl .0)
+get-node-requires c κs = let store = c .before .before .pre .0 .store in omega (arith, store .store .fits, goes-here _ _ store (here c) refl .0)
 
 -- ---- the part is used up: on to the tail or right ----
 
@@ -31,14 +39,15 @@ loop-less c =
     let used-up = c .before .before in
     let read = used-up .before .before .before in
     let at-loop = read .before in
-    omega (arith, goes-low _ _ (at-loop .before .before .pre .0) (at-loop .loop .inv .1) (read .get-node .ensures) (used-up .if1 .taken))
+    omega (arith, goes-low _ _ (at-loop .before .before .pre .0 .store) (here at-loop) (read .get-node .ensures) (used-up .if1 .taken))
 
 loop-again : tie.Need-loop-again Inv-loop μ-loop
 loop-again c =
     let used-up = c .before .before in
     let read = used-up .before .before .before in
     let at-loop = read .before in
-    (at-loop .loop .inv .0, goes-on _ _ (at-loop .before .before .pre .0) (at-loop .loop .inv .1) (read .get-node .ensures) (used-up .if1 .taken))
+    let inv = at-loop .loop .inv in
+    (inv .0, λ used store ready. goes-on _ _ store (inv .1 used store ready) (read .get-node .ensures) (used-up .if1 .taken))
 
 -- ---- a run ----
 
@@ -46,9 +55,12 @@ returns : tie.Need-returns Inv-loop μ-loop
 returns c =
     let inner = c .before .before in
     let read = inner .before .before .before in
-    let at-loop = read .before in
-    let inv = at-loop .loop .inv in
-    (inv .0, inv .1, goes-front _ _ (at-loop .before .before .pre .0) (inv .1) (read .get-node .ensures) (c .if2 .taken) (inner .if1 .left))
+    let inv = read .before .loop .inv in (
+      inv .0,
+      λ used store ready.
+          let goes = inv .1 used store ready in
+          record { goes = goes; begins = goes-front _ _ store goes (read .get-node .ensures) (c .if2 .taken) (inner .if1 .left) },
+    )
 
 -- ---- the piece lies in the left ----
 
@@ -58,23 +70,22 @@ loop-less-2 c =
     let inner = concat .before .before in
     let read = inner .before .before .before in
     let at-loop = read .before in
-    omega (arith, goes-small _ _ (at-loop .before .before .pre .0) (at-loop .loop .inv .1) (read .get-node .ensures) (concat .if2 .left) (inner .if1 .left) .0)
+    omega (arith, goes-small _ _ (at-loop .before .before .pre .0 .store) (here at-loop) (read .get-node .ensures) (concat .if2 .left) (inner .if1 .left) .0)
 
 loop-again-2 : tie.Need-loop-again-2 Inv-loop μ-loop
 loop-again-2 c =
     let concat = c .before .before .before .before in
     let inner = concat .before .before in
     let read = inner .before .before .before in
-    let at-loop = read .before in
-    let inv = at-loop .loop .inv in
-    (inv .0, goes-in _ _ (at-loop .before .before .pre .0) (inv .1) (read .get-node .ensures) (concat .if2 .left) (inner .if1 .left) (c .if3 .taken))
+    let inv = read .before .loop .inv in
+    (inv .0, λ used store ready. goes-in _ _ store (inv .1 used store ready) (read .get-node .ensures) (concat .if2 .left) (inner .if1 .left) (c .if3 .taken))
 
 -- ---- the stack is full ----
 
 loop-again-3 : tie.Need-loop-again-3 Inv-loop μ-loop
 loop-again-3 c =
     let at-loop = c .before .before .before .before .before .before .before .before .before .before .before .before in
-    (omega arith, goes-cut (at-loop .loop .inv .1) (none-wait _))
+    (omega arith, λ used store ready. goes-cut (at-loop .loop .inv .1 used store ready) (none-wait _))
 
 -- ---- the piece goes on in the right, which waits ----
 
@@ -90,7 +101,7 @@ set-word-requires c κs =
     let inner = concat .before .before in
     let read = inner .before .before .before in
     let at-loop = read .before in
-    let small = goes-small _ _ (at-loop .before .before .pre .0) (at-loop .loop .inv .1) (read .get-node .ensures) (concat .if2 .left) (inner .if1 .left) in
+    let small = goes-small _ _ (at-loop .before .before .pre .0 .store) (here at-loop) (read .get-node .ensures) (concat .if2 .left) (inner .if1 .left) in
     (omega (arith, at-loop .loop .inv .0, has-room .if4 .left), omega (arith, small .1))
 
 -- both words of the field fit on the stack
@@ -123,7 +134,7 @@ set-word-requires-2 c κs =
     let read = has-room .before .before .before .before .before .before .before .before .before .before .before in
     let at-loop = read .before in (
       rw (pushed-one .set-word .ensures, length-set) (omega (arith, at-loop .loop .inv .0, has-room .if4 .left)),
-      omega (arith, goes-here _ _ (at-loop .before .before .pre .0) (at-loop .loop .inv .1) (read .get-node .ensures) .2),
+      omega (arith, goes-here _ _ (at-loop .before .before .pre .0 .store) (here at-loop) (read .get-node .ensures) .2),
     )
 
 add-at : tie.Need-add-at Inv-loop μ-loop
@@ -139,7 +150,7 @@ loop-less-4 c =
     let inner = concat .before .before in
     let read = inner .before .before .before in
     let at-loop = read .before in
-    omega (arith, goes-small _ _ (at-loop .before .before .pre .0) (at-loop .loop .inv .1) (read .get-node .ensures) (concat .if2 .left) (inner .if1 .left) .0)
+    omega (arith, goes-small _ _ (at-loop .before .before .pre .0 .store) (here at-loop) (read .get-node .ensures) (concat .if2 .left) (inner .if1 .left) .0)
 
 loop-again-4 : tie.Need-loop-again-4 Inv-loop μ-loop
 loop-again-4 c =
@@ -150,10 +161,9 @@ loop-again-4 c =
     let concat = longer .before .before .before .before in
     let inner = concat .before .before in
     let read = inner .before .before .before in
-    let at-loop = read .before in
-    let inv = at-loop .loop .inv in (
+    let inv = read .before .loop .inv in (
       omega (arith, inv .0, has-room .if4 .left),
-      goes-split _ _ (at-loop .before .before .pre .0) (inv .1) (read .get-node .ensures) (concat .if2 .left) (inner .if1 .left) (longer .if3 .left)
+      λ used store ready. goes-split _ _ store (inv .1 used store ready) (read .get-node .ensures) (concat .if2 .left) (inner .if1 .left) (longer .if3 .left)
           (pushed _ _ _ _ _ _ (fits pushed-one) (pushed-one .set-word .ensures) (pushed-two .set-word2 .ensures)),
     )
 

@@ -1,8 +1,10 @@
 -- `joined`: an empty operand, 12, or the nodes that `join_makes` counts and `join_build` makes.
-use mathlib.Core.Path.{refl, sym, _∙_}
+use mathlib.Core.Path.{_≡_, refl, sym, _∙_}
 use borrow.Author.Needs.{needs}
 use borrow.Author.Tests.{not-true, not-false}
 use native.Mathlib.Omega.{arith}
+use Rattle.view_spec.specs.Build.{unclamp, plan, planMakes}
+use Rattle.nodes.specs.NodeStore.{nodesIn}
 use Rattle.view.specs.Check.{answerOf}
 use Rattle.view.specs.GrowLaws.{room-fits}
 use Rattle.view.specs.JoinedLaws.{join-left-empty, join-right-empty, field-piece, right-piece, height-at, joins-fit, joined-full, joined-done}
@@ -20,11 +22,29 @@ returns-2 c =
     let start = some-left .before .before .before in
     join-right-empty _ _ (start .pre .0 .store) _ _ (some-left .if1 .left) (c .if2 .taken)
 
+-- the right's node, unclamped
+right-is : (c : tie.After-unclamp)
+    → let start = c .before .before .before .before .before .before .before .before in
+    let a = start .args in
+    c .unclamp .result ≡ unclamp (nodesIn (a .nodes .now) (a .count .now)) (a .g .node) (a .g .len)
+right-is c = let start = c .before .before .before .before .before .before .before .before in c .unclamp .ensures .1 _ (start .pre .0) (start .pre .1 .1 .0 .low)
+
+-- the count of the nodes that are made
+makes-is : (c : tie.After-join-makes)
+    → let read = c .before .before in
+    let some-left = read .before .before .before .before .before .before .before in
+    let a = some-left .before .before .before .args in
+    c .join-makes .result ≡ planMakes (plan (nodesIn (a .nodes .now) (a .count .now)) (read .get-node .result .height) (a .f .node) (a .f .len))
+makes-is c =
+    let some-left = c .before .before .before .before .before .before .before .before .before in
+    let start = some-left .before .before .before in
+    c .join-makes .ensures _ (start .pre .0) (field-piece _ _ (start .pre .0) _ _ (start .pre .1 .0) (some-left .if1 .left))
+
 unclamp-requires : tie.Need-unclamp-requires
 unclamp-requires c κs =
     let some-right = c .before .before in
     let start = some-right .before .before .before .before .before in
-    (start .pre .0, start .pre .1 .1 .0 .low)
+    record { used = _; store = start .pre .0; low = start .pre .1 .1 .0 .low }
 
 get-node-requires : tie.Need-get-node-requires
 get-node-requires c κs =
@@ -38,7 +58,7 @@ join-makes-requires c κs =
     let some-right = c .before .before .before .before .before .before in
     let some-left = some-right .before .before in
     let start = some-left .before .before .before in
-    (start .pre .0, field-piece _ _ (start .pre .0) _ _ (start .pre .1 .0) (some-left .if1 .left))
+    record { used = _; store = start .pre .0; piece = field-piece _ _ (start .pre .0) _ _ (start .pre .1 .0) (some-left .if1 .left) }
 
 returns-3 : tie.Need-returns-3
 unfolding answerOf
@@ -50,9 +70,9 @@ returns-3 c =
     let some-right = right .before .before .before in
     let some-left = some-right .before .before in
     let start = some-left .before .before .before in
-    joined-full _ _ _ _ (some-left .if1 .left) (some-right .if2 .left) (right .unclamp .ensures .1)
+    joined-full _ _ _ _ (some-left .if1 .left) (some-right .if2 .left) (right-is right)
     (height-at _ _ _ (read .get-node .ensures) (omega (arith, right .unclamp .ensures .0, start .pre .1 .1 .0 .low)))
-    (counted .join-makes .ensures) (sym (at-room .node-room .ensures) ∙ not-true _ (c .if3 .taken))
+    (makes-is counted) (sym (at-room .node-room .ensures) ∙ not-true _ (c .if3 .taken))
 
 add-join-build : tie.Need-add-join-build
 add-join-build c =
@@ -70,13 +90,13 @@ join-build-requires c κs =
     let some-right = right .before .before .before in
     let some-left = some-right .before .before in
     let start = some-left .before .before .before in
-    let low = right-piece _ _ (start .pre .0) (field-piece _ _ (start .pre .0) _ _ (start .pre .1 .1 .0) (some-right .if2 .left)) (right .unclamp .ensures .1) in
+    let low = right-piece _ _ (start .pre .0) (field-piece _ _ (start .pre .0) _ _ (start .pre .1 .1 .0) (some-right .if2 .left)) (right-is right) in
     let fits = room-fits _ _ _ (sym (at-room .node-room .ensures) ∙ not-false _ (has-room .if3 .left)) in (
       start .pre .0,
       (
         field-piece _ _ (start .pre .0) _ _ (start .pre .1 .0) (some-left .if1 .left),
-        joins-fit _ _ _ _ (some-left .if1 .left) (some-right .if2 .left) (right .unclamp .ensures .1) (height-at _ _ _ (read .get-node .ensures) (low .0))
-            (counted .join-makes .ensures) low fits,
+        joins-fit _ _ _ _ (some-left .if1 .left) (some-right .if2 .left) (right-is right) (height-at _ _ _ (read .get-node .ensures) (low .0))
+            (makes-is counted) low fits,
       ),
     )
 
@@ -116,9 +136,9 @@ returns-4 c =
     let some-right = right .before .before .before in
     let some-left = some-right .before .before in
     let start = some-left .before .before .before in
-    joined-done _ _ _ _ (some-left .if1 .left) (some-right .if2 .left) (right .unclamp .ensures .1)
+    joined-done _ _ _ _ (some-left .if1 .left) (some-right .if2 .left) (right-is right)
     (height-at _ _ _ (read .get-node .ensures) (omega (arith, right .unclamp .ensures .0, start .pre .1 .1 .0 .low)))
-    (counted .join-makes .ensures) (sym (at-room .node-room .ensures) ∙ not-false _ (has-room .if3 .left)) (c .new .ensures) (built .join-build .ensures)
+    (makes-is counted) (sym (at-room .node-room .ensures) ∙ not-false _ (has-room .if3 .left)) (c .new .ensures) (built .join-build .ensures)
 
 pub joined-spec : {M : Type 1} → statement M
 joined-spec =

@@ -7,33 +7,30 @@ use Rattle.view_read.proofs.place_of.Tie as tie
 
 returns : tie.Need-returns
 unfolding placeOf
-returns c = place-empty _ _ _ (c .if1 .taken)
+returns c used low = place-empty _ _ _ (c .if1 .taken)
 
 returns-2 : tie.Need-returns-2
 unfolding placeOf
-returns-2 c =
+returns-2 c used low =
     let read = c .before .before in
     let some-terms = read .before in
-    let start = some-terms .before .before .before in
-    place-other _ _ _ (read .get-node .ensures) (start .pre .1) (some-terms .if1 .left) (c .if2 .taken)
+    place-other _ _ _ (read .get-node .ensures) low (some-terms .if1 .left) (c .if2 .taken)
 
 returns-3 : tie.Need-returns-3
 unfolding placeOf
-returns-3 c =
+returns-3 c used low =
     let cons = c .before .before in
     let read = cons .before .before in
     let some-terms = read .before in
-    let start = some-terms .before .before .before in
-    place-longer _ _ _ (read .get-node .ensures) (start .pre .1) (some-terms .if1 .left) (cons .if2 .left) (c .if3 .taken)
+    place-longer _ _ _ (read .get-node .ensures) low (some-terms .if1 .left) (cons .if2 .left) (c .if3 .taken)
 
 returns-4 : tie.Need-returns-4
 unfolding placeOf
-returns-4 c =
+returns-4 c used low =
     let cons = c .before .before in
     let read = cons .before .before in
     let some-terms = read .before in
-    let start = some-terms .before .before .before in
-    place-one _ _ _ (read .get-node .ensures) (start .pre .1) (some-terms .if1 .left) (cons .if2 .left) (c .if3 .left)
+    place-one _ _ _ (read .get-node .ensures) low (some-terms .if1 .left) (cons .if2 .left) (c .if3 .left)
 
 pub place-of-spec : {M : Type 1} → statement M
 place-of-spec = tie.close (tie.spec returns (λ c κs. search needs) returns-2 returns-3 returns-4)

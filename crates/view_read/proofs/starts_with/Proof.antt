@@ -2,9 +2,9 @@
 use borrow.Author.Needs.{needs}
 use native.Mathlib.Omega.{arith}
 use mathlib.Core.Path.{sym, _∙_}
-use Rattle.view.specs.StepLaws.{usable-both, reaches}
+use Rattle.view.specs.StepLaws.{usable-both}
 use Rattle.view_read.specs.Read.{verdictOf}
-use Rattle.view_read.specs.CompareLaws.{starts-refused, starts-short, starts-by}
+use Rattle.view_read.specs.CompareLaws.{both-show, starts-refused, starts-short, starts-by}
 use Rattle.view_read.proofs.starts_with.Statement.{statement}
 use Rattle.view_read.proofs.starts_with.Tie as tie
 
@@ -20,21 +20,23 @@ equal-fronts-requires : tie.Need-equal-fronts-requires
 equal-fronts-requires c κs =
     let passed = c .before .before .before in
     let (u, v) = usable-both _ _ _ (passed .before .check .ensures) (passed .if1 .left) in
-    ((u .values, u .terms), (u .store, (record { low = u .low; fits = omega (arith, u .within) }, reaches v)))
+    ((u .values, u .terms), (_, both-show u v (omega arith)))
 
 returns-3 : tie.Need-returns-3
 unfolding verdictOf
 returns-3 c =
     let compared = c .before in
     let passed = compared .before .before .before .before in
-    starts-by _ _ _ (passed .before .check .ensures) (passed .if1 .left) (search needs) (sym (c .if3 .taken) ∙ compared .equal-fronts .ensures)
+    let (u, v) = usable-both _ _ _ (passed .before .check .ensures) (passed .if1 .left) in
+    starts-by _ _ _ (passed .before .check .ensures) (passed .if1 .left) (search needs) (sym (c .if3 .taken) ∙ compared .equal-fronts .ensures _ (both-show u v (omega arith)))
 
 returns-4 : tie.Need-returns-4
 unfolding verdictOf
 returns-4 c =
     let compared = c .before in
     let passed = compared .before .before .before .before in
-    starts-by _ _ _ (passed .before .check .ensures) (passed .if1 .left) (search needs) (sym (c .if3 .left) ∙ compared .equal-fronts .ensures)
+    let (u, v) = usable-both _ _ _ (passed .before .check .ensures) (passed .if1 .left) in
+    starts-by _ _ _ (passed .before .check .ensures) (passed .if1 .left) (search needs) (sym (c .if3 .left) ∙ compared .equal-fronts .ensures _ (both-show u v (omega arith)))
 
 pub starts-with-spec : {M : Type 1} → statement M
 starts-with-spec =
