@@ -1,18 +1,30 @@
-/* The matcher for C. Link with the static library librefal.a, which `rt staticlib refal` writes to target/staticlib (x86-64 Linux).
+/* Naldrev, a Refal-5 pattern matcher, for C and C++ on x86-64 Linux. `pkg-config --cflags --libs naldrev` has the flags of an installed
+   library; docs/C.md says how to install it. naldrev_store.h has these calls with structs and a handful of arguments.
 
-   Records are 32-bit words in slices that the caller lends: a pointer and a length, counted in elements. Document 01 has the rules of each
-   record. A store is a slice with its used count beside it; node 0 of the nodes, six words of 0, has to be there (nodes_used at least 1).
+   Records are 32-bit words in slices that the caller lends: a pointer and a length. Document 01 has the rules of each record. A store is a
+   slice with its used count beside it; node 0 of the nodes, six words of 0, has to be there (nodes_used at least 1).
+
+   Units:
+   - A length named .._len of a slice is in its elements: bytes of names and texts, words of all else. Terms, nodes, patterns, bindings, runs
+     and work are whole records: a multiple of the record's width. Slots may have any length.
+   - A used count, and any other count of records, is in records: terms_used terms take terms_used * NALDREV_TERM_WIDTH words.
+   - The length of a field, and start and length of a run, are in terms; offset and length of a name are in bytes; *written is in bytes.
 
    Every function but naldrev_name_count returns 0 (NALDREV_OK), NALDREV_MORE_THAN_FIT, or the number of a refusal. A refusal changes no lent
    word, except that NALDREV_NO_MATCH and NALDREV_CALLS_ARE_NOT_PATTERNS keep the settled copy (see the listing). Out parameters are written
-   where the answer has a value for them, and left alone by a refusal.
+   where the answer has a value for them, and left alone by a refusal. naldrev_text has a sentence for each number.
 
    What the caller owes, and nothing checks:
    - No pointer is null, also where its length is 0; each points to that many elements, aligned.
    - What is lent for writing (a pointer without const, an out parameter included) overlaps nothing else that the call is lent.
-   - Nothing else writes to what is lent while the call runs. The functions keep no state, so calls on stores of their own may run at once.
+   - Nothing else writes to what is lent while the call runs.
+   - There is stack for the call: NALDREV_STACK_BYTES.
    Nothing is kept: once a call has returned, the library holds none of the pointers. Contents are checked by each call: any words are
-   answered with a number. */
+   answered with a number.
+
+   Threads: the library has no state, takes no lock and allocates nothing. Calls on stores of their own may run at once; so may calls that
+   only read one store (all of it lent through pointers to const), if each has its own out parameters and work. A call that adds to a store
+   has to have it alone: those that make nodes, and the two listings, which may copy a field after the used terms. */
 #ifndef NALDREV_H
 #define NALDREV_H
 
@@ -22,6 +34,21 @@
 #ifdef __cplusplus
 extern "C" {
 #endif
+
+/* ---- version ---- */
+
+/* Of these headers and of the library that they belong to. As long as the first number is 0, a change of the second may change the calls. */
+#define NALDREV_VERSION_MAJOR 0
+#define NALDREV_VERSION_MINOR 1
+#define NALDREV_VERSION_PATCH 0
+#define NALDREV_VERSION "0.1.0"
+#define NALDREV_VERSION_NUMBER (NALDREV_VERSION_MAJOR * 1000000 + NALDREV_VERSION_MINOR * 1000 + NALDREV_VERSION_PATCH)
+
+/* ---- stack ---- */
+
+/* What a call needs of stack at most, in bytes, whatever it is lent. It is measured with the library as it is built, on the inputs found to
+   need the most (tools/stack), and rounded up; it is not proved. What the caller's own functions take comes on top. */
+#define NALDREV_STACK_BYTES 393216
 
 /* ---- numbers that a function returns ---- */
 
@@ -42,6 +69,31 @@ extern "C" {
 #define NALDREV_WORK_SHORT 14             /* the copy exceeds the work buffer */
 #define NALDREV_MORE_THAN_FIT 15          /* the slots are full, and a further candidate exists */
 #define NALDREV_BAD_SHEET 16              /* the text isn't a sheet */
+
+/* A short sentence for a number that a function returned. */
+static inline const char *naldrev_text(size_t number)
+{
+    switch (number) {
+    case NALDREV_OK: return "accepted";
+    case NALDREV_UNEVEN: return "a slice is not whole records, or a count passes its slice or its limit";
+    case NALDREV_BAD_TERM: return "a term breaks its rule";
+    case NALDREV_BAD_NODE: return "a node breaks its rule, or node 0 is missing";
+    case NALDREV_BAD_FIELD: return "a field has no such node, or is longer than its node reaches";
+    case NALDREV_PAST_END: return "a count, a range or a run reaches past its end";
+    case NALDREV_TOO_LONG: return "the field would be too long";
+    case NALDREV_BAD_PATTERN: return "a pattern record breaks its rule";
+    case NALDREV_BAD_BINDING: return "a binding breaks its rule, or repeats a name";
+    case NALDREV_TOO_MANY_NAMES: return "bindings and pattern have too many names";
+    case NALDREV_NO_MATCH: return "the pattern does not fit";
+    case NALDREV_CALLS_ARE_NOT_PATTERNS: return "a try reached a call or a block";
+    case NALDREV_NODES_FULL: return "there is no room for the new nodes";
+    case NALDREV_TERMS_FULL: return "there is no room for the new terms";
+    case NALDREV_WORK_SHORT: return "the slice to write to is too short";
+    case NALDREV_MORE_THAN_FIT: return "the slots are full, and there is a further candidate";
+    case NALDREV_BAD_SHEET: return "the text is not a sheet";
+    default: return "unknown number";
+    }
+}
 
 /* ---- widths of the records, in words ---- */
 

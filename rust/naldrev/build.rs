@@ -1,55 +1,66 @@
-// Links the static library of the proved code, librefal.a: from NALDREV_LIB_DIR, else from target/staticlib of the repository, where tools/build
-// makes it if it is missing or older than a source. The drivers in rust/differential and rust/benchmark use this file too.
+//! Finds the static library of the proved code and has it linked. In this order: the folder NALDREV_LIB_DIR; the repository that this package stands
+//! in, where tools/build makes the library if it is missing or older than a source; the folder that pkg-config knows.
+//!
+//! Where none has it, that is a warning and no error, so that `cargo doc` and `cargo check` work without the library. A build then ends with the
+//! compiler's "could not find native static library", below the warning that says how to get it.
 use std::path::{Path, PathBuf};
 use std::process::Command;
 
-const FILE: &str = "librefal.a";
+/// The library as the repository builds it, and as `make install` names it.
+const FILES: [(&str, &str); 2] = [("librefal.a", "refal"), ("libnaldrev.a", "naldrev")];
 
-fn stop(why: &str) -> ! {
-    eprintln!("naldrev: {why}");
-    eprintln!("naldrev: to get {FILE}, run `tools/build library` in the repository's folder with the Rattle toolchain on the path;");
-    eprintln!("naldrev: or set NALDREV_LIB_DIR to a folder that holds {FILE}.");
-    std::process::exit(1)
-}
-
-/// The repository's folder: the nearest one above the package that has crates.txt.
-fn root() -> PathBuf {
-    let Some(here) = std::env::var_os("CARGO_MANIFEST_DIR") else {
-        stop("CARGO_MANIFEST_DIR is not set: build with cargo");
-    };
-    match Path::new(&here).ancestors().find(|folder| folder.join("crates.txt").is_file()) {
-        Some(folder) => folder.to_path_buf(),
-        None => stop("the package does not stand in its repository"),
+fn warn(text: &str) {
+    for line in text.lines() {
+        println!("cargo:warning={line}");
     }
 }
 
-/// Has tools/build look whether the library is there and newer than its sources, and make it where it is not. What it says are warnings.
+/// The repository's folder, if there is one: the nearest one above the package that has crates.txt and tools/build.
+fn repository() -> Option<PathBuf> {
+    let here = std::env::var_os("CARGO_MANIFEST_DIR")?;
+    let stands = |folder: &&Path| folder.join("crates.txt").is_file() && folder.join("tools/build").is_file();
+    Path::new(&here).ancestors().find(stands).map(Path::to_path_buf)
+}
+
+/// Has tools/build look whether the library is there and newer than its sources, and make it where it is not.
 fn made(root: &Path) -> PathBuf {
     for source in ["crates", "crates.txt"] {
         println!("cargo:rerun-if-changed={}", root.join(source).display());
     }
     match Command::new(root.join("tools/build")).arg("library").output() {
-        Ok(output) => {
-            for line in String::from_utf8_lossy(&output.stderr).lines() {
-                println!("cargo:warning={line}");
-            }
-            if !output.status.success() {
-                stop(&format!("`tools/build library` failed ({})", output.status));
-            }
-        }
-        Err(error) => println!("cargo:warning=tools/build could not be run ({error}): {FILE} may be older than its sources"),
+        Ok(output) if output.status.success() => {}
+        Ok(output) => warn(&String::from_utf8_lossy(&output.stderr)),
+        Err(error) => warn(&format!("tools/build could not be run: {error}")),
     }
     root.join("target/staticlib")
 }
 
+/// The folder of an installed library.
+fn installed() -> Option<PathBuf> {
+    let output = Command::new("pkg-config").args(["--variable=libdir", "naldrev"]).output().ok()?;
+    let folder = String::from_utf8(output.stdout).ok()?;
+    (output.status.success() && !folder.trim().is_empty()).then(|| PathBuf::from(folder.trim()))
+}
+
 fn main() {
     println!("cargo:rerun-if-env-changed=NALDREV_LIB_DIR");
-    let folder = std::env::var_os("NALDREV_LIB_DIR").map_or_else(|| made(&root()), PathBuf::from);
-    let library = folder.join(FILE);
-    if !library.is_file() {
-        stop(&format!("{FILE} is not in {}", folder.display()));
-    }
-    println!("cargo:rerun-if-changed={}", library.display());
+    println!("cargo:rerun-if-env-changed=PKG_CONFIG_PATH");
+    let given = std::env::var_os("NALDREV_LIB_DIR").map(PathBuf::from);
+    let Some(folder) = given.or_else(|| repository().map(|root| made(&root))).or_else(installed) else {
+        warn("no naldrev library was found. Install it (`make install` in the Naldrev repository, which needs the Rattle toolchain),");
+        warn("or set NALDREV_LIB_DIR to the folder that holds librefal.a or libnaldrev.a. Without it nothing can be linked.");
+        println!("cargo:rustc-link-lib=static=naldrev");
+        return;
+    };
     println!("cargo:rustc-link-search=native={}", folder.display());
-    println!("cargo:rustc-link-lib=static=refal");
+    match FILES.iter().find(|(file, _)| folder.join(file).is_file()) {
+        Some((file, library)) => {
+            println!("cargo:rerun-if-changed={}", folder.join(file).display());
+            println!("cargo:rustc-link-lib=static={library}");
+        }
+        None => {
+            warn(&format!("neither librefal.a nor libnaldrev.a is in {}: nothing can be linked", folder.display()));
+            println!("cargo:rustc-link-lib=static=naldrev");
+        }
+    }
 }

@@ -38,6 +38,10 @@ Tells Spent b = Unit {0}
 unfoldable pub formAt : List ℕ → List ℕ → ℕ → ℕ → Value
 formAt names w used i = canon (getD (valuesIn names w used) i (char 0))
 
+-- A store is small if it has at most so many used terms.
+abbrev pub smallStore : ℕ
+smallStore = 1024
+
 -- A table leads from each term so far down: to an earlier term, or to itself.
 abbrev pub Down : List ℕ → Type 0
 Down known = (x : ℕ) → getD known x 0 ≤ x

@@ -5,10 +5,10 @@ use words::Run;
 use words::refusal;
 ghost use mathlib.Core.Path.{_≡_};
 ghost use Prim.Native.Nat.{ℕ, _+_, _-_, _<_, _≤_, max, min};
-ghost use lib.ListN.{set};
+ghost use lib.ListN.{length, set};
 ghost use Rattle.value.specs.Equal.{TermStore, equalAt, equalRuns};
 ghost use Rattle.equality.specs.Compare.{comparedRuns, answerOf};
-ghost use Rattle.equality.specs.Known.{TermsIn, RunsIn, sameRuns, Tells, Down, Remembers, Decided, Found, formAt};
+ghost use Rattle.equality.specs.Known.{TermsIn, RunsIn, sameRuns, Tells, smallStore, Down, Remembers, Decided, Found, formAt};
 ghost use Rattle.words.specs.Records.{asRun};
 ghost use Rattle.term_spec.specs.Term.{limit};
 
@@ -93,8 +93,8 @@ fn equal_runs_within(names: &[u8], terms: &[u32], first: Run, second: Run, budge
 // Terms known to be equal, as trees over their numbers: term x leads to an equal one that stands known[x] below it, or nowhere if that is 0.
 
 // The lowest term that x leads to, step by step. On the way each term looked at is made to lead one step further.
-fn lowest_known(known: &mut [u16; words::LIMIT], x: usize) -> usize
-    requires { ⌜ Down (now known) × (x < limit) ⌝ }
+fn lowest_known(known: &mut [u16], x: usize) -> usize
+    requires { ⌜ Down (now known) × (x < limit) × (x < length (now known)) ⌝ }
     ensures { λ r. ⌜ Found (now (known .entry)) (now (known .exit)) x r ⌝ }
 {
     let mut at = x;
@@ -111,8 +111,9 @@ fn lowest_known(known: &mut [u16; words::LIMIT], x: usize) -> usize
 }
 
 // The larger of two terms leads to the smaller.
-fn link(known: &mut [u16; words::LIMIT], a: usize, b: usize)
-    requires { ⌜ (a < limit) × (b < limit) ⌝ }
+fn link(known: &mut [u16], a: usize, b: usize)
+    requires few { ⌜ (a < limit) × (b < limit) ⌝ }
+    requires room { ⌜ (a < length (now known)) × (b < length (now known)) ⌝ }
     ensures { λ _. ⌜ now (known .exit) ≡ set (now (known .entry)) (max a b) (max a b - min a b) ⌝ }
 {
     if a < b {
@@ -123,14 +124,9 @@ fn link(known: &mut [u16; words::LIMIT], a: usize, b: usize)
 }
 
 // Whether terms i and j are equal. Brackets that are known to be equal are not compared again, and those found equal are remembered.
-fn equal_terms_known(
-    names: &[u8],
-    terms: &[u32],
-    i: usize,
-    j: usize,
-    known: &mut [u16; words::LIMIT],
-) -> bool
-    requires { ⌜ ((used : ℕ) × (TermsIn (now names) (now terms) i j used × Remembers (formAt (now names) (now terms) used) (now known))) ⌝ }
+fn equal_terms_known(names: &[u8], terms: &[u32], i: usize, j: usize, known: &mut [u16]) -> bool
+    requires { ⌜ ((used : ℕ) × (TermsIn (now names) (now terms) i j used
+        × Remembers (formAt (now names) (now terms) used) (now known) × (used ≤ length (now known)))) ⌝ }
     ensures { λ r.
         let text = now (names .entry) in
         let store = now (terms .entry) in
@@ -166,15 +162,9 @@ fn equal_terms_known(
 }
 
 // Whether two runs are equal. The same run is equal without reading.
-fn equal_runs_known(
-    names: &[u8],
-    terms: &[u32],
-    first: Run,
-    second: Run,
-    known: &mut [u16; words::LIMIT],
-) -> bool
+fn equal_runs_known(names: &[u8], terms: &[u32], first: Run, second: Run, known: &mut [u16]) -> bool
     requires { ⌜ ((used : ℕ) × (RunsIn (now names) (now terms) (asRun first) (asRun second) used
-        × Remembers (formAt (now names) (now terms) used) (now known))) ⌝ }
+        × Remembers (formAt (now names) (now terms) used) (now known) × (used ≤ length (now known)))) ⌝ }
     ensures { λ r.
         let text = now (names .entry) in
         let store = now (terms .entry) in
@@ -197,8 +187,38 @@ fn equal_runs_known(
     true
 }
 
-// The same, with nothing known at first. The table takes 128 KB of stack. A run longer than half the used terms goes in two parts, since the
-// compiler copies no function that calls itself into its callers: so that stack is set aside by calls of this one alone.
+// A store is small if it has at most so many used terms, as the store of every sheet has.
+const SMALL_STORE: usize = 1024;
+
+// Whether two runs of a small store are equal, with nothing known at first. The table takes 2 KB of stack.
+fn equal_in_small_store(names: &[u8], terms: &[u32], first: Run, second: Run) -> bool
+    requires { ⌜ ((used : ℕ) × (RunsIn (now names) (now terms) (asRun first) (asRun second) used × (used ≤ smallStore))) ⌝ }
+    ensures { λ r.
+        let text = now (names .entry) in
+        let store = now (terms .entry) in
+        ⌜ ((used : ℕ) → RunsIn text store (asRun first) (asRun second) used → used ≤ smallStore
+        → r ≡ sameRuns text store used (asRun first) (asRun second)) ⌝ }
+{
+    let mut known = [0u16; SMALL_STORE];
+    equal_runs_known(names, terms, first, second, &mut known)
+}
+
+// The same of any store. The table takes 128 KB of stack.
+fn equal_in_any_store(names: &[u8], terms: &[u32], first: Run, second: Run) -> bool
+    requires { ⌜ ((used : ℕ) × RunsIn (now names) (now terms) (asRun first) (asRun second) used) ⌝ }
+    ensures { λ r.
+        let text = now (names .entry) in
+        let store = now (terms .entry) in
+        ⌜ ((used : ℕ) → RunsIn text store (asRun first) (asRun second) used
+        → r ≡ sameRuns text store used (asRun first) (asRun second)) ⌝ }
+{
+    let mut known = [0u16; words::LIMIT];
+    equal_runs_known(names, terms, first, second, &mut known)
+}
+
+// The same, with the table that the store needs. A run longer than half the used terms goes in two parts, since the compiler copies no function
+// that calls itself into its callers, and none with a large array into one that calls itself: so a table's stack is set aside only while the
+// function that has it runs.
 fn equal_runs_remembering(names: &[u8], terms: &[u32], used: usize, first: Run, second: Run) -> bool
     requires { ⌜ RunsIn (now names) (now terms) (asRun first) (asRun second) used ⌝ }
     ensures { λ r.
@@ -231,13 +251,15 @@ fn equal_runs_remembering(names: &[u8], terms: &[u32], used: usize, first: Run, 
         };
         return equal_runs_remembering(names, terms, used, after, other_after);
     }
-    let mut known = [0u16; words::LIMIT];
-    equal_runs_known(names, terms, first, second, &mut known)
+    if used <= SMALL_STORE {
+        return equal_in_small_store(names, terms, first, second);
+    }
+    equal_in_any_store(names, terms, first, second)
 }
 
 // ---- runs ----
 
-// What comparing may take beyond the used terms before it remembers: clearing the table takes about as long.
+// What comparing may take beyond the used terms before it remembers: clearing the large table takes about as long.
 const EXTRA: usize = 4096;
 
 // Whether the n terms from s on and the m terms from p on are equal, term by term. Where no contents are shared, the budget is enough: all of

@@ -4,19 +4,9 @@ use crate::port::{self, Call, Request, Store};
 use crate::report::{Line, Report};
 use crate::ropes::{self, Steps};
 use crate::timing::{self, Timed};
+use naldrev::sys::naldrev_name_count;
 use original::matcher::{Bindings, MatchError, match_pattern_first, match_pattern_with_bindings_candidates};
 use std::hint::black_box;
-
-unsafe extern "C" {
-    fn naldrev_name_count(
-        names: *const u8,
-        names_len: usize,
-        pattern: *const u32,
-        pattern_len: usize,
-        bindings: *const u32,
-        bindings_len: usize,
-    ) -> usize;
-}
 
 /// The names of a pattern, no bindings given.
 fn name_count(store: &Store, pattern: &[u32]) -> usize {

@@ -1,23 +1,19 @@
-//! Lists the prices of an order: e.Before (e.Item Price s.Amount) e.After. Run it by `cargo run --example price`.
+//! Lists the prices of an order. Run it by `cargo run --example price`.
 
-use naldrev::{e, s, Bindings, Item, Refusal, Shown, Store, Value};
+use naldrev::{Bindings, Error, Expression, Pattern, Store};
 
-fn main() -> Result<(), Refusal> {
-    let word = |text: &str| Value::Identifier(text.into());
-    let line = |item: &str, amount: &str| Value::Bracket(vec![word(item), word("Price"), Value::Number(amount.into())]);
+fn main() -> Result<(), Error> {
+    let order: Expression = "Order (Apples Price 120) (Pears Price 95)".parse()?;
+    let price: Pattern = "e.before (s.item Price s.amount) e.after".parse()?;
 
     let mut store = Store::new();
-    let run = store.add(&[word("Order"), line("Apples", "120"), line("Pears", "95")])?;
-    let message = store.from_runs(&[run])?;
-
-    let price = Item::Bracket(vec![e("Item").into(), Item::Identifier("Price".into()), s("Amount").into()]);
-    let pattern = store.pattern(&[e("Before").into(), price, e("After").into()])?;
-    let listing = store.candidates(message, &pattern, &Bindings::NONE, 16)?;
-    for (i, candidate) in listing.candidates.iter().enumerate() {
-        println!("candidate {}", i + 1);
-        for (variable, run) in listing.variables.iter().zip(&candidate.runs) {
-            println!("  {variable} = [{}]", Shown(&store.run_values(*run)?));
+    let message = store.message(&order)?;
+    let pattern = store.prepare(&price)?;
+    for candidate in &store.candidates(message, &pattern, &Bindings::NONE, 16)? {
+        for (variable, terms) in candidate.terms(&store)? {
+            println!("{variable} = {terms}");
         }
+        println!();
     }
     Ok(())
 }

@@ -1,73 +1,11 @@
-//! The functions of the static library, as safe functions over slices. All `unsafe` of the crate is here.
+//! The functions of the static library, as safe functions over slices. All `unsafe` of the crate is here; `sys` declares the functions.
 //!
 //! What each function of the library asks of its caller (include/naldrev.h): pointers that are not null and point to as many elements as said,
 //! and no overlap between what is lent for writing and anything else. Rust's references give both: a slice's pointer is never null, and a
 //! `&mut` overlaps no other reference. The library keeps no pointer, and answers any contents with a number.
 
+use crate::sys::*;
 use crate::Refusal;
-
-extern "C" {
-    fn naldrev_from_runs(
-        names: *const u8, names_len: usize, terms: *const u32, terms_len: usize, terms_used: usize, nodes: *mut u32, nodes_len: usize,
-        nodes_used: *mut usize, runs: *const u32, runs_len: usize, node: *mut usize, len: *mut usize,
-    ) -> usize;
-    fn naldrev_join(
-        names: *const u8, names_len: usize, terms: *const u32, terms_len: usize, terms_used: usize, nodes: *mut u32, nodes_len: usize,
-        nodes_used: *mut usize, left_node: usize, left_len: usize, right_node: usize, right_len: usize, node: *mut usize, len: *mut usize,
-    ) -> usize;
-    fn naldrev_take(
-        names: *const u8, names_len: usize, terms: *const u32, terms_len: usize, terms_used: usize, nodes: *const u32, nodes_len: usize,
-        nodes_used: usize, field_node: usize, field_len: usize, count: usize, node: *mut usize, len: *mut usize,
-    ) -> usize;
-    fn naldrev_rest(
-        names: *const u8, names_len: usize, terms: *const u32, terms_len: usize, terms_used: usize, nodes: *mut u32, nodes_len: usize,
-        nodes_used: *mut usize, field_node: usize, field_len: usize, count: usize, node: *mut usize, len: *mut usize,
-    ) -> usize;
-    fn naldrev_range(
-        names: *const u8, names_len: usize, terms: *const u32, terms_len: usize, terms_used: usize, nodes: *mut u32, nodes_len: usize,
-        nodes_used: *mut usize, field_node: usize, field_len: usize, start: usize, count: usize, node: *mut usize, len: *mut usize,
-    ) -> usize;
-    fn naldrev_starts_with(
-        names: *const u8, names_len: usize, terms: *const u32, terms_len: usize, terms_used: usize, nodes: *const u32, nodes_len: usize,
-        nodes_used: usize, field_node: usize, field_len: usize, front_node: usize, front_len: usize, yes: *mut usize,
-    ) -> usize;
-    fn naldrev_equal(
-        names: *const u8, names_len: usize, terms: *const u32, terms_len: usize, terms_used: usize, nodes: *const u32, nodes_len: usize,
-        nodes_used: usize, left_node: usize, left_len: usize, right_node: usize, right_len: usize, yes: *mut usize,
-    ) -> usize;
-    fn naldrev_flatten(
-        names: *const u8, names_len: usize, terms: *const u32, terms_len: usize, terms_used: usize, nodes: *const u32, nodes_len: usize,
-        nodes_used: usize, field_node: usize, field_len: usize, work: *mut u32, work_len: usize, in_work: *mut usize, start: *mut usize,
-        count: *mut usize,
-    ) -> usize;
-    fn naldrev_compare_runs(
-        names: *const u8, names_len: usize, terms: *const u32, terms_len: usize, terms_used: usize, first_start: usize, first_len: usize,
-        second_start: usize, second_len: usize, yes: *mut usize,
-    ) -> usize;
-    fn naldrev_match_pattern_with_bindings_candidates(
-        names: *const u8, names_len: usize, terms: *mut u32, terms_len: usize, terms_used: *mut usize, nodes: *const u32, nodes_len: usize,
-        nodes_used: usize, field_node: usize, field_len: usize, pattern: *const u32, pattern_len: usize, bindings: *const u32,
-        bindings_len: usize, slots: *mut u32, slots_len: usize, count: *mut usize, entries: *mut usize,
-    ) -> usize;
-    fn naldrev_match_pattern_first(
-        names: *const u8, names_len: usize, terms: *mut u32, terms_len: usize, terms_used: *mut usize, nodes: *const u32, nodes_len: usize,
-        nodes_used: usize, field_node: usize, field_len: usize, pattern: *const u32, pattern_len: usize, bindings: *const u32,
-        bindings_len: usize, slots: *mut u32, slots_len: usize, count: *mut usize, entries: *mut usize,
-    ) -> usize;
-    fn naldrev_name_count(
-        names: *const u8, names_len: usize, pattern: *const u32, pattern_len: usize, bindings: *const u32, bindings_len: usize,
-    ) -> usize;
-    fn naldrev_read_sheet(
-        text: *const u8, text_len: usize, terms: *mut u32, terms_len: usize, pattern: *mut u32, pattern_len: usize, runs: *mut u32,
-        runs_len: usize, term_count: *mut usize, name_start: *mut usize, name_count: *mut usize, pattern_count: *mut usize,
-        run_count: *mut usize,
-    ) -> usize;
-    fn naldrev_write_sheet(
-        terms: *const u32, terms_len: usize, names: *const u8, names_len: usize, pattern: *const u32, pattern_len: usize,
-        runs: *const u32, runs_len: usize, out: *mut u8, out_len: usize, written: *mut usize,
-    ) -> usize;
-    fn naldrev_run_sheet(text: *const u8, text_len: usize, out: *mut u8, out_len: usize, written: *mut usize) -> usize;
-}
 
 /// The names and the terms, for reading.
 #[derive(Clone, Copy)]

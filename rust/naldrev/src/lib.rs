@@ -1,44 +1,55 @@
 //! A safe interface to Naldrev, a Refal-5 pattern matcher whose every function is proved to meet its contract. What is proved is the static
 //! library that this crate links; this crate owns the stores that the library is lent, lets them grow, and turns numbers into enums.
 //!
-//! A [`Store`] holds terms and the nodes of fields. Terms are added as [`Value`]s and give a [`Run`]; runs make a [`Field`]; a [`Pattern`] is
-//! listed over a field. A field, a run or a pattern belongs to the store that made it: the library checks every call, so one of another store
-//! is refused or means what its numbers say there.
-//!
-//! A [`Sheet`] has terms, names, a pattern and runs as one text, and [`run_sheet`] answers it with one.
+//! A [`Store`] holds terms and the ropes of which messages are made. A message is read from a text as an [`Expression`], and [`Store::message`] makes
+//! a [`Field`] of it; fields are joined, cut and compared. A [`Pattern`] is read from a text too, and [`Store::prepare`] makes it ready for the
+//! store. [`Store::candidates`] lists the ways in which it fits a field.
 //!
 //! ```
-//! use naldrev::{e, Bindings, Item, Shown, Store, Value};
+//! use naldrev::{Bindings, Expression, Pattern, Store};
 //!
-//! // e.1 '-' e.2 on the field --
 //! let mut store = Store::new();
-//! let run = store.add(&Value::chars("--"))?;
-//! let field = store.from_runs(&[run])?;
-//! let pattern = store.pattern(&[e("1").into(), Item::Char('-'), e("2").into()])?;
-//! let listing = store.candidates(field, &pattern, &Bindings::NONE, 16)?;
-//! assert_eq!(listing.candidates.len(), 2);
-//! assert!(!listing.more);
+//! let message = store.message(&"'--'".parse::<Expression>()?)?;
+//! let pattern = store.prepare(&"e.1 '-' e.2".parse::<Pattern>()?)?;
+//! let listing = store.candidates(message, &pattern, &Bindings::NONE, 16)?;
+//! assert_eq!(listing.len(), 2);
+//! assert!(!listing.more());
 //!
-//! // e.1 is empty first
-//! let run = listing.run(0, &e("1")).unwrap();
-//! assert_eq!(run.len, 0);
-//! let run = listing.run(0, &e("2")).unwrap();
-//! assert_eq!(Shown(&store.run_values(run)?).to_string(), "'-'");
-//! # Ok::<(), naldrev::Refusal>(())
+//! // e.1 is empty first.
+//! let first = listing.get(0).unwrap();
+//! assert!(first.run("e.1").unwrap().is_empty());
+//! assert_eq!(store.terms(first.run("e.2").unwrap())?.to_string(), "'-'");
+//! # Ok::<(), naldrev::Error>(())
 //! ```
+//!
+//! Handles (fields, runs, prepared patterns, bindings, marks) know the store that made them: another store refuses them. A store only fills; thousands
+//! of messages go through one store with [`Store::mark`] and [`Store::put_back`].
+//!
+//! A [`Sheet`] has terms, names, a pattern and runs as one text, and [`run_sheet`] answers it with one. [`sys`] has the library's functions as C
+//! declares them.
 #![deny(missing_docs, unsafe_code)]
 
+mod error;
 #[allow(unsafe_code)]
 #[rustfmt::skip]
 mod ffi;
 mod pattern;
+mod records;
 mod refusal;
 mod sheet;
 mod store;
+#[rustfmt::skip]
+pub mod sys;
+mod text;
 mod value;
 
-pub use pattern::{e, s, t, Bindings, Candidate, Item, Listing, Pattern, Variable, VariableKind};
+pub use error::Error;
+pub use pattern::{e, s, t, Item, Pattern, Variable, VariableKind};
+pub use records::{BINDING_WIDTH, NODE_WIDTH, PATTERN_WIDTH, RUN_WIDTH, TERM_WIDTH};
+pub use records::{MAX_DEPTH, MAX_NAMES, MAX_NESTING, MAX_NODES, MAX_RECORDS, MAX_RUNS, MAX_TERMS, MAX_TEXT, MAX_VARIABLES};
 pub use refusal::Refusal;
-pub use sheet::{run_sheet, Sheet};
-pub use store::{Capacity, Field, Flat, Run, Store, MAX_NAMES, MAX_NODES, MAX_TERMS, MAX_VALUES};
-pub use value::{Shown, UnknownKind, Value};
+pub use sheet::{run_sheet, Sheet, SHEET_NAMES, SHEET_TERMS};
+pub use store::MAX_VALUES;
+pub use store::{Bindings, Candidate, Capacity, Field, Flat, Listing, Mark, Prepared, Run, Store, Terms};
+pub use text::{messages, sentences, Layout, Message, Sentence, TextError};
+pub use value::{Expression, UnknownKind, Value};

@@ -1,8 +1,12 @@
-//! Patterns and starting bindings: as written, and as words for one store.
+//! Patterns as written: literals, brackets and variables. Their text form is in `text`; [`crate::Store::prepare`] makes the words of one store of
+//! them.
 
-use std::fmt;
+use std::hash::{Hash, Hasher};
+use std::ops::Deref;
 
-use crate::Run;
+use crate::records::item;
+use crate::text::KINDS;
+use crate::value::sequence;
 
 /// The kinds of variables.
 #[derive(Clone, Copy, Debug, PartialEq, Eq, Hash)]
@@ -16,16 +20,24 @@ pub enum VariableKind {
 }
 
 impl VariableKind {
+    const ALL: [VariableKind; 3] = [VariableKind::S, VariableKind::T, VariableKind::E];
+
+    /// The kind's number in a record of a pattern or of bindings.
     pub(crate) fn code(self) -> u32 {
         match self {
-            VariableKind::S => 5,
-            VariableKind::T => 6,
-            VariableKind::E => 7,
+            VariableKind::S => item::S_VARIABLE,
+            VariableKind::T => item::T_VARIABLE,
+            VariableKind::E => item::E_VARIABLE,
         }
     }
 
     pub(crate) fn from_code(code: u32) -> Option<VariableKind> {
-        [VariableKind::S, VariableKind::T, VariableKind::E].into_iter().find(|k| k.code() == code)
+        VariableKind::ALL.into_iter().find(|kind| kind.code() == code)
+    }
+
+    /// The letter that Refal writes it with.
+    pub fn letter(self) -> char {
+        KINDS[self as usize].0
     }
 }
 
@@ -46,15 +58,11 @@ impl PartialEq for Variable {
 
 impl Eq for Variable {}
 
-/// As Refal writes it, such as `e.Item`.
-impl fmt::Display for Variable {
-    fn fmt(&self, f: &mut fmt::Formatter<'_>) -> fmt::Result {
-        let letter = match self.kind {
-            VariableKind::S => 's',
-            VariableKind::T => 't',
-            VariableKind::E => 'e',
-        };
-        write!(f, "{letter}.{}", self.name)
+/// Variables that are equal have one hash, so ASCII case is ignored here too.
+impl Hash for Variable {
+    fn hash<H: Hasher>(&self, state: &mut H) {
+        self.kind.hash(state);
+        self.name.to_ascii_lowercase().hash(state);
     }
 }
 
@@ -73,8 +81,8 @@ pub fn e(name: &str) -> Variable {
     Variable { kind: VariableKind::E, name: name.into() }
 }
 
-/// A part of a pattern. [`crate::Store::pattern`] makes a pattern of a list of them.
-#[derive(Clone, Debug, PartialEq, Eq)]
+/// A part of a pattern.
+#[derive(Clone, Debug, PartialEq, Eq, Hash)]
 pub enum Item {
     /// A character.
     Char(char),
@@ -104,75 +112,24 @@ impl From<char> for Item {
     }
 }
 
-/// A pattern as words: its texts are offsets in the names of the store that made it. With another store it is refused or means what the words
-/// say there.
-#[derive(Clone, Debug, PartialEq, Eq)]
-pub struct Pattern {
-    words: Vec<u32>,
-}
+/// A pattern as written.
+///
+/// ```
+/// use naldrev::{s, Item, Pattern};
+/// let pattern: Pattern = "(kWh s.energy)".parse()?;
+/// assert_eq!(*pattern, [Item::Bracket(vec![Item::Identifier("kWh".into()), s("energy").into()])]);
+/// assert_eq!(pattern.to_string(), "(kWh s.energy)");
+/// # Ok::<(), naldrev::TextError>(())
+/// ```
+#[derive(Clone, Debug, Default, PartialEq, Eq, Hash)]
+pub struct Pattern(pub Vec<Item>);
 
-impl Pattern {
-    /// A pattern of words, four to a record. They are checked by the call that uses it.
-    pub fn from_words(words: Vec<u32>) -> Pattern {
-        Pattern { words }
-    }
-
-    /// Its words.
-    pub fn words(&self) -> &[u32] {
-        &self.words
-    }
-}
-
-/// Starting bindings as words; what is said of [`Pattern`] holds of them too.
-#[derive(Clone, Debug, Default, PartialEq, Eq)]
-pub struct Bindings {
-    words: Vec<u32>,
-}
-
-impl Bindings {
-    /// No bindings.
-    pub const NONE: Bindings = Bindings { words: Vec::new() };
-
-    /// Bindings of words, five to a record. They are checked by the call that uses them.
-    pub fn from_words(words: Vec<u32>) -> Bindings {
-        Bindings { words }
-    }
-
-    /// Their words.
-    pub fn words(&self) -> &[u32] {
-        &self.words
-    }
-}
-
-/// What a listing found. The runs are of the term store, and stay valid in it.
-#[derive(Clone, Debug, PartialEq, Eq)]
-pub struct Listing {
-    /// The entries of each candidate: the variables of the start, then those of the pattern by first occurrence.
-    pub variables: Vec<Variable>,
-    /// The candidates, in document 01's order.
-    pub candidates: Vec<Candidate>,
-    /// Whether a further candidate exists that was not asked for.
-    pub more: bool,
-}
-
-impl Listing {
-    /// What a candidate binds a variable to, if both are there.
-    pub fn run(&self, candidate: usize, variable: &Variable) -> Option<Run> {
-        let entry = self.variables.iter().position(|v| v == variable)?;
-        self.candidates.get(candidate)?.runs.get(entry).copied()
-    }
-}
-
-/// One candidate: a run for each variable of its listing.
-#[derive(Clone, Debug, PartialEq, Eq)]
-pub struct Candidate {
-    /// The runs, in the order of [`Listing::variables`].
-    pub runs: Vec<Run>,
-}
+sequence!(Pattern, Item);
 
 #[cfg(test)]
 mod tests {
     use super::*;
+    use std::collections::HashSet;
 
     #[test]
     fn variables_agree_without_case() {
@@ -182,31 +139,17 @@ mod tests {
     }
 
     #[test]
-    fn variables_are_shown_as_refal_writes_them() {
-        assert_eq!([s("A"), t("b"), e("C-1")].map(|v| v.to_string()), ["s.A", "t.b", "e.C-1"]);
-    }
-
-    #[test]
     fn kinds_go_both_ways() {
-        for kind in [VariableKind::S, VariableKind::T, VariableKind::E] {
+        for kind in VariableKind::ALL {
             assert_eq!(VariableKind::from_code(kind.code()), Some(kind));
         }
         assert_eq!(VariableKind::from_code(4), None);
     }
 
     #[test]
-    fn words_are_kept() {
-        assert_eq!(Pattern::from_words(vec![0, 97, 0, 0]).words(), [0, 97, 0, 0]);
-        assert_eq!(Bindings::from_words(vec![1]).words(), [1]);
-        assert!(Bindings::NONE.words().is_empty());
-    }
-
-    #[test]
-    fn a_run_of_a_listing() {
-        let run = Run { start: 3, len: 1 };
-        let listing = Listing { variables: vec![e("A")], candidates: vec![Candidate { runs: vec![run] }], more: false };
-        assert_eq!(listing.run(0, &e("a")), Some(run));
-        assert_eq!(listing.run(1, &e("a")), None);
-        assert_eq!(listing.run(0, &s("a")), None);
+    fn a_set_of_variables_ignores_case() {
+        let known = HashSet::from([e("Point"), s("Point")]);
+        assert!(known.contains(&e("pOINT")));
+        assert!(!known.contains(&t("Point")));
     }
 }

@@ -1,10 +1,10 @@
-//! The numbers of document 01 that refuse a call.
+//! The numbers with which the library refuses a call.
 
 use std::fmt;
 
-/// Why a call was refused. A refused call changes nothing, except that [`Refusal::NoMatch`] and [`Refusal::CallsAreNotPatterns`] may leave the
-/// settled copy of the field in the terms.
+/// Why the library refused a call. A refused call changes nothing. More numbers come with more calls.
 #[derive(Clone, Copy, Debug, PartialEq, Eq, Hash)]
+#[non_exhaustive]
 pub enum Refusal {
     /// 1: a slice isn't whole records, a count passes its slice or limit, or a list has over 64 runs.
     Uneven,
@@ -16,7 +16,7 @@ pub enum Refusal {
     BadField,
     /// 5: a count or range reaches past its field, or a run past the used terms.
     PastEnd,
-    /// 6: a field would pass 65,536 terms; or the tree that a field is read as would pass [`crate::MAX_VALUES`].
+    /// 6: a field would pass 65,536 terms.
     TooLong,
     /// 7: a pattern record breaks its rule.
     BadPattern,
@@ -24,7 +24,7 @@ pub enum Refusal {
     BadBinding,
     /// 9: start and pattern together have over 64 names.
     TooManyNames,
-    /// 10: the pattern has no candidate.
+    /// 10: the pattern has no candidate. The methods of [`crate::Store`] answer an empty listing or `None` instead.
     NoMatch,
     /// 11: a try reached a call or a block, which no term matches.
     CallsAreNotPatterns,
@@ -38,34 +38,43 @@ pub enum Refusal {
     BadSheet,
 }
 
-/// The refusals with their numbers.
-const NUMBERS: [(Refusal, usize); 15] = [
-    (Refusal::Uneven, 1),
-    (Refusal::BadTerm, 2),
-    (Refusal::BadNode, 3),
-    (Refusal::BadField, 4),
-    (Refusal::PastEnd, 5),
-    (Refusal::TooLong, 6),
-    (Refusal::BadPattern, 7),
-    (Refusal::BadBinding, 8),
-    (Refusal::TooManyNames, 9),
-    (Refusal::NoMatch, 10),
-    (Refusal::CallsAreNotPatterns, 11),
-    (Refusal::NodesFull, 12),
-    (Refusal::TermsFull, 13),
-    (Refusal::WorkShort, 14),
-    (Refusal::BadSheet, 16),
+/// The refusals with their numbers and what they say.
+const ALL: [(Refusal, usize, &str); 15] = [
+    (Refusal::Uneven, 1, "a slice is not whole records, a count passes its slice or its limit, or a list has over 64 runs"),
+    (Refusal::BadTerm, 2, "a term breaks its rule"),
+    (Refusal::BadNode, 3, "a node breaks its rule, or node 0 is missing"),
+    (Refusal::BadField, 4, "there is no such field: its node is missing, or holds fewer terms"),
+    (Refusal::PastEnd, 5, "a count or a range reaches past the end of the field, or a run past the used terms"),
+    (Refusal::TooLong, 6, "the field would be longer than 65,536 terms"),
+    (Refusal::BadPattern, 7, "a record of the pattern breaks its rule"),
+    (Refusal::BadBinding, 8, "a starting binding breaks its rule, or two of them have one name"),
+    (Refusal::TooManyNames, 9, "the pattern and the starting bindings have over 64 names together"),
+    (Refusal::NoMatch, 10, "the pattern does not fit"),
+    (Refusal::CallsAreNotPatterns, 11, "the pattern has a call or a block, which fits nothing, and a try reached it"),
+    (Refusal::NodesFull, 12, "the store has no room for the new nodes"),
+    (Refusal::TermsFull, 13, "the store has no room for the new terms"),
+    (Refusal::WorkShort, 14, "the work buffer is too short for the terms"),
+    (Refusal::BadSheet, 16, "the text is no sheet"),
 ];
 
 impl Refusal {
     /// The refusal with this number, if there is one. 0 and 15 refuse nothing.
     pub fn from_number(number: usize) -> Option<Refusal> {
-        NUMBERS.iter().find(|(_, n)| *n == number).map(|(r, _)| *r)
+        ALL.iter().find(|(_, n, _)| *n == number).map(|(refusal, _, _)| *refusal)
     }
 
-    /// Document 01's number.
+    /// Its number.
     pub fn number(self) -> usize {
-        NUMBERS.iter().find(|(r, _)| *r == self).map_or(0, |(_, n)| *n)
+        self.row().1
+    }
+
+    /// What it says, without the number.
+    pub fn meaning(self) -> &'static str {
+        self.row().2
+    }
+
+    fn row(self) -> (Refusal, usize, &'static str) {
+        *ALL.iter().find(|(refusal, _, _)| *refusal == self).expect("every refusal has its row")
     }
 
     /// The refusal that the library answered with. Its contracts leave no other number.
@@ -74,9 +83,10 @@ impl Refusal {
     }
 }
 
+/// A sentence, then the number in brackets.
 impl fmt::Display for Refusal {
     fn fmt(&self, f: &mut fmt::Formatter<'_>) -> fmt::Result {
-        write!(f, "refused: {} {:?}", self.number(), self)
+        write!(f, "{} (refusal {})", self.meaning(), self.number())
     }
 }
 
@@ -88,18 +98,14 @@ mod tests {
 
     #[test]
     fn numbers_go_both_ways() {
-        for n in 0..=20 {
-            match Refusal::from_number(n) {
-                Some(r) => assert_eq!(r.number(), n),
-                None => assert!(n == 0 || n == 15 || n > 16, "{n}"),
-            }
-        }
-        assert_eq!(Refusal::from_number(16), Some(Refusal::BadSheet));
+        let numbers: Vec<usize> = (0..=100).filter(|n| Refusal::from_number(*n).is_some()).collect();
+        assert_eq!(numbers, [1, 2, 3, 4, 5, 6, 7, 8, 9, 10, 11, 12, 13, 14, 16]);
+        assert!(numbers.iter().all(|n| Refusal::of(*n).number() == *n));
     }
 
     #[test]
-    fn shown_with_its_number() {
-        assert_eq!(Refusal::NoMatch.to_string(), "refused: 10 NoMatch");
+    fn shown_as_a_sentence_with_its_number() {
+        assert_eq!(Refusal::NoMatch.to_string(), "the pattern does not fit (refusal 10)");
     }
 
     #[test]

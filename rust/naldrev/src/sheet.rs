@@ -1,14 +1,12 @@
 //! The sheet: terms, names, a pattern and runs as one text, and the text that answers it.
 
-use crate::ffi;
-use crate::Refusal;
+use crate::records::{MAX_RECORDS, MAX_RUNS, PATTERN_WIDTH, RUN_WIDTH, TERM_WIDTH};
+use crate::{ffi, Refusal};
 
-/// The words of the most terms of a sheet, 512.
-const TERMS: usize = 512 * 4;
-/// The words of the most pattern records, 256.
-const PATTERN: usize = 256 * 4;
-/// The words of the most runs, 64.
-const RUNS: usize = 64 * 2;
+/// The most terms of a sheet.
+pub const SHEET_TERMS: usize = 512;
+/// The most bytes of names of a sheet.
+pub const SHEET_NAMES: usize = 4096;
 /// The bytes of the longest sheet.
 const SHEET: usize = 38_250;
 /// The bytes of the longest answer.
@@ -30,11 +28,13 @@ pub struct Sheet {
 impl Sheet {
     /// Reads a sheet from its text. [`Refusal::BadSheet`] if the text is none.
     pub fn read(text: &[u8]) -> Result<Sheet, Refusal> {
-        let (mut terms, mut pattern, mut runs) = (vec![0; TERMS], vec![0; PATTERN], vec![0; RUNS]);
+        let mut terms = vec![0; SHEET_TERMS * TERM_WIDTH];
+        let mut pattern = vec![0; MAX_RECORDS * PATTERN_WIDTH];
+        let mut runs = vec![0; MAX_RUNS * RUN_WIDTH];
         let counts = ffi::read_sheet(text, &mut terms, &mut pattern, &mut runs)?;
-        terms.truncate(counts.terms * 4);
-        pattern.truncate(counts.pattern * 4);
-        runs.truncate(counts.runs * 2);
+        terms.truncate(counts.terms * TERM_WIDTH);
+        pattern.truncate(counts.pattern * PATTERN_WIDTH);
+        runs.truncate(counts.runs * RUN_WIDTH);
         let names = text[counts.name_start..][..counts.names].to_vec();
         Ok(Sheet { terms, names, pattern, runs })
     }

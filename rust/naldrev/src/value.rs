@@ -1,6 +1,6 @@
-//! Terms as a tree of Rust values: what is added to a store, and what is read back from it.
+//! Terms as a tree of Rust values: what is added to a store, and what is read back from it. Their text form is in `text`.
 
-use std::fmt;
+use std::ops::Deref;
 
 /// What an unknown stands for.
 #[derive(Clone, Copy, Debug, PartialEq, Eq, Hash)]
@@ -14,11 +14,12 @@ pub enum UnknownKind {
 }
 
 impl UnknownKind {
+    /// The kinds, in the order of their numbers in a record.
     pub(crate) const ALL: [UnknownKind; 3] = [UnknownKind::Symbol, UnknownKind::Term, UnknownKind::Expression];
 }
 
-/// A term with its contents. Equality here is by spelling; the terms of a store are compared by [`crate::Store::equal`] and
-/// [`crate::Store::compare_runs`], which ignore the case of identifiers.
+/// A term with its contents. Equality here is by spelling: `kWh` and `KWH` are two values. The terms of a store are compared by
+/// [`crate::Store::equal`] and [`crate::Store::compare_runs`], which ignore the case of identifiers.
 #[derive(Clone, Debug, PartialEq, Eq, Hash)]
 pub enum Value {
     /// A character.
@@ -47,62 +48,61 @@ impl Value {
     }
 }
 
-impl fmt::Display for Value {
-    fn fmt(&self, f: &mut fmt::Formatter<'_>) -> fmt::Result {
-        match self {
-            Value::Char(c) => write!(f, "'{c}'"),
-            Value::Identifier(s) | Value::Number(s) => f.write_str(s),
-            Value::Bracket(contents) => write!(f, "({})", Shown(contents)),
-            Value::Unknown { kind, level, index } => {
-                let letter = match kind {
-                    UnknownKind::Symbol => 's',
-                    UnknownKind::Term => 't',
-                    UnknownKind::Expression => 'e',
-                };
-                write!(f, "?{letter}.{level}.{index}")
+/// Gives a struct of one vector what a vector's reader expects: a slice by `Deref`, making one of values, and going through it.
+macro_rules! sequence {
+    ($list:ident, $part:ident) => {
+        impl Deref for $list {
+            type Target = [$part];
+
+            fn deref(&self) -> &[$part] {
+                &self.0
             }
         }
-    }
-}
 
-/// Values for printing, with spaces between them.
+        impl From<Vec<$part>> for $list {
+            fn from(parts: Vec<$part>) -> $list {
+                $list(parts)
+            }
+        }
+
+        impl FromIterator<$part> for $list {
+            fn from_iter<I: IntoIterator<Item = $part>>(parts: I) -> $list {
+                $list(parts.into_iter().collect())
+            }
+        }
+
+        impl IntoIterator for $list {
+            type Item = $part;
+            type IntoIter = std::vec::IntoIter<$part>;
+
+            fn into_iter(self) -> Self::IntoIter {
+                self.0.into_iter()
+            }
+        }
+
+        impl<'a> IntoIterator for &'a $list {
+            type Item = &'a $part;
+            type IntoIter = std::slice::Iter<'a, $part>;
+
+            fn into_iter(self) -> Self::IntoIter {
+                self.0.iter()
+            }
+        }
+    };
+}
+pub(crate) use sequence;
+
+/// Terms one after another, Refal's expression: a message, or what a variable stands for.
 ///
 /// ```
-/// use naldrev::{Shown, Value};
-/// let values = [Value::Char('a'), Value::Bracket(vec![Value::Number("7".into())])];
-/// assert_eq!(Shown(&values).to_string(), "'a' (7)");
+/// use naldrev::{Expression, Value};
+/// let message: Expression = "Session 'ab' (kWh 42)".parse()?;
+/// assert_eq!(message.len(), 4);
+/// assert_eq!(message[1], Value::Char('a'));
+/// assert_eq!(message.to_string(), "Session 'ab' (kWh 42)");
+/// # Ok::<(), naldrev::TextError>(())
 /// ```
-pub struct Shown<'a>(pub &'a [Value]);
+#[derive(Clone, Debug, Default, PartialEq, Eq, Hash)]
+pub struct Expression(pub Vec<Value>);
 
-impl fmt::Display for Shown<'_> {
-    fn fmt(&self, f: &mut fmt::Formatter<'_>) -> fmt::Result {
-        for (i, value) in self.0.iter().enumerate() {
-            if i > 0 {
-                f.write_str(" ")?;
-            }
-            value.fmt(f)?;
-        }
-        Ok(())
-    }
-}
-
-#[cfg(test)]
-mod tests {
-    use super::*;
-
-    #[test]
-    fn every_kind_is_shown() {
-        let unknown = |kind| Value::Unknown { kind, level: 1, index: 2 };
-        let values = [
-            Value::Char('a'),
-            Value::Identifier("Day".into()),
-            Value::Number("007".into()),
-            Value::Bracket(vec![]),
-            Value::Bracket(Value::chars("xy")),
-            unknown(UnknownKind::Symbol),
-            unknown(UnknownKind::Term),
-            unknown(UnknownKind::Expression),
-        ];
-        assert_eq!(Shown(&values).to_string(), "'a' Day 007 () ('x' 'y') ?s.1.2 ?t.1.2 ?e.1.2");
-    }
-}
+sequence!(Expression, Value);

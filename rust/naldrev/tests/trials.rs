@@ -1,123 +1,102 @@
-//! Document 01's trial messages, through the safe interface.
+//! The trial messages of docs/REFERENCE.md, through the safe interface and the text form.
 
-use naldrev::{e, s, t, Bindings, Field, Item, Listing, Refusal, Shown, Store, UnknownKind, Value};
+use naldrev::{Bindings, Error, Expression, Item, Listing, Pattern, Refusal, Store, Value};
 
-/// Lists a pattern on values, from no bindings.
-fn list(items: &[Item], values: &[Value]) -> (Store, Result<Listing, Refusal>) {
+/// Lists a pattern on a message, from no bindings.
+fn list(pattern: &[Item], message: &[Value]) -> (Store, Result<Listing, Error>) {
     let mut store = Store::new();
-    let run = store.add(values).unwrap();
-    let field = store.from_runs(&[run]).unwrap();
-    let pattern = store.pattern(items).unwrap();
+    let field = store.message(message).unwrap();
+    let pattern = store.prepare(pattern).unwrap();
     let listing = store.candidates(field, &pattern, &Bindings::NONE, 64);
     if let Ok(listing) = &listing {
-        assert!(!listing.more);
+        assert!(!listing.more());
         let first = store.first(field, &pattern, &Bindings::NONE).unwrap();
-        assert_eq!(first.candidates[..], listing.candidates[..1]);
+        assert_eq!(first.as_ref(), listing.get(0));
     }
     (store, listing)
 }
 
-/// The values of the candidates, one text for each.
-fn found(items: &[Item], values: &[Value]) -> Vec<String> {
-    let (store, listing) = list(items, values);
-    let listing = listing.unwrap();
-    let text = |run: &naldrev::Run| format!("[{}]", Shown(&store.run_values(*run).unwrap()));
-    listing.candidates.iter().map(|c| c.runs.iter().map(text).collect()).collect()
+fn list_text(pattern: &str, message: &str) -> (Store, Result<Listing, Error>) {
+    list(&pattern.parse::<Pattern>().unwrap(), &message.parse::<Expression>().unwrap())
 }
 
-fn refused(items: &[Item], values: &[Value]) -> Refusal {
-    list(items, values).1.unwrap_err()
+/// What each candidate gives the variables, one text for each candidate.
+fn found(pattern: &str, message: &str) -> Vec<String> {
+    let (store, listing) = list_text(pattern, message);
+    let text = |c: &naldrev::Candidate| c.terms(&store).unwrap().map(|(v, terms)| format!("{v}[{terms}]")).collect::<Vec<_>>().join(" ");
+    listing.unwrap().iter().map(text).collect()
 }
 
-fn unknown(kind: UnknownKind) -> Vec<Value> {
-    vec![Value::Unknown { kind, level: 0, index: 1 }]
-}
-
-fn number(text: &str) -> Value {
-    Value::Number(text.into())
+#[track_caller]
+fn nowhere(pattern: &str, message: &str) {
+    assert_eq!(found(pattern, message), [""; 0]);
 }
 
 #[test]
 fn empty_pattern() {
-    assert_eq!(found(&[], &[]), [""]);
-    assert_eq!(refused(&[], &Value::chars("a")), Refusal::NoMatch);
+    assert_eq!(found("", ""), [""]);
+    nowhere("", "'a'");
 }
 
 #[test]
 fn e_on_the_empty_field() {
-    assert_eq!(found(&[e("1").into()], &[]), ["[]"]);
+    assert_eq!(found("e.1", ""), ["e.1[]"]);
 }
 
 #[test]
 fn e_dash_e() {
-    let items = [e("1").into(), '-'.into(), e("2").into()];
-    assert_eq!(found(&items, &Value::chars("--")), ["[]['-']", "['-'][]"]);
+    assert_eq!(found("e.1 '-' e.2", "'--'"), ["e.1[] e.2['-']", "e.1['-'] e.2[]"]);
 }
 
 #[test]
 fn one_name_in_two_cases() {
-    let items = [e("X").into(), e("x").into()];
-    assert_eq!(found(&items, &Value::chars("aa")), ["['a']"]);
-    assert_eq!(refused(&items, &Value::chars("aaa")), Refusal::NoMatch);
+    assert_eq!(found("e.X e.x", "'aa'"), ["e.X['a']"]);
+    nowhere("e.X e.x", "'aaa'");
 }
 
 #[test]
 fn s_and_t_on_a_bracket() {
-    let values = [Value::Bracket(Value::chars("a"))];
-    assert_eq!(refused(&[s("1").into()], &values), Refusal::NoMatch);
-    assert_eq!(found(&[t("1").into()], &values), ["[('a')]"]);
+    nowhere("s.1", "('a')");
+    assert_eq!(found("t.1", "('a')"), ["t.1[('a')]"]);
 }
 
 #[test]
 fn unknowns() {
-    assert_eq!(refused(&[s("1").into()], &unknown(UnknownKind::Term)), Refusal::NoMatch);
-    assert_eq!(found(&[s("1").into()], &unknown(UnknownKind::Symbol)), ["[?s.0.1]"]);
-    assert_eq!(refused(&[t("1").into()], &unknown(UnknownKind::Expression)), Refusal::NoMatch);
-    assert_eq!(found(&[e("1").into()], &unknown(UnknownKind::Expression)), ["[?e.0.1]"]);
+    nowhere("s.1", "?t.0.1");
+    assert_eq!(found("s.1", "?s.0.1"), ["s.1[?s.0.1]"]);
+    nowhere("t.1", "?e.0.1");
+    assert_eq!(found("e.1", "?e.0.1"), ["e.1[?e.0.1]"]);
 }
 
 #[test]
 fn numbers_by_text_and_identifiers_without_case() {
-    assert_eq!(refused(&[Item::Number("7".into())], &[number("007")]), Refusal::NoMatch);
-    assert_eq!(found(&[Item::Identifier("Day".into())], &[Value::Identifier("DAY".into())]), [""]);
+    nowhere("7", "007");
+    assert_eq!(found("Day", "DAY"), [""]);
 }
 
 #[test]
 fn one_name_of_two_kinds() {
-    assert_eq!(found(&[s("A").into(), e("A").into()], &Value::chars("ab")), ["['a']['b']"]);
+    assert_eq!(found("s.A e.A", "'ab'"), ["s.A['a'] e.A['b']"]);
 }
 
 #[test]
 fn calls() {
-    let items = ['a'.into(), Item::Call];
-    assert_eq!(refused(&items, &Value::chars("b")), Refusal::NoMatch);
-    assert_eq!(refused(&items, &Value::chars("a")), Refusal::CallsAreNotPatterns);
-    let items = [e("1").into(), Item::Bracket(vec![Item::Call]), 'x'.into()];
-    assert_eq!(refused(&items, &[Value::Bracket(vec![]), Value::Char('y')]), Refusal::NoMatch);
+    nowhere("'a' <F>", "'b'");
+    assert_eq!(list_text("'a' <F>", "'a'").1, Err(Refusal::CallsAreNotPatterns.into()));
+    nowhere("e.1 (<F>) 'x'", "() 'y'");
 }
 
 #[test]
 fn names_64_and_65() {
-    let names = |n: usize| (0..n).map(|i| e(&i.to_string()).into()).collect::<Vec<Item>>();
-    let (_, listing) = list(&names(64), &[]);
-    assert_eq!(listing.unwrap().variables.len(), 64);
-    assert_eq!(refused(&names(65), &[]), Refusal::TooManyNames);
+    let names = |n: usize| (0..n).map(|i| naldrev::e(&i.to_string()).into()).collect::<Vec<Item>>();
+    assert_eq!(list(&names(64), &[]).1.unwrap().variables().len(), 64);
+    assert_eq!(list(&names(65), &[]).1, Err(Refusal::TooManyNames.into()));
 }
 
 #[test]
 fn rest_by_the_length() {
     let mut store = Store::new();
-    let run = store.add(&Value::chars("ab")).unwrap();
-    let field = store.from_runs(&[run]).unwrap();
+    let field = store.message(&Value::chars("ab")).unwrap();
     assert!(store.rest(field, 2).unwrap().is_empty());
-    assert_eq!(store.rest(field, 3).err(), Some(Refusal::PastEnd));
-}
-
-#[test]
-fn a_field_of_another_store() {
-    let mut big = Store::new();
-    let run = big.add(&Value::chars("abc")).unwrap();
-    let field = big.from_runs(&[run]).unwrap();
-    assert_eq!(Store::new().take(field, 1).err(), Some(Refusal::BadField));
-    assert_eq!(Store::new().values(Field::EMPTY), Ok(vec![]));
+    assert_eq!(store.rest(field, 3).err(), Some(Refusal::PastEnd.into()));
 }

@@ -1,6 +1,8 @@
 //! The port's calls: stores and arguments as owned words, and the static library's functions behind them. The benchmark (rust/benchmark) makes
 //! its calls with this file too.
 
+use naldrev::sys::*;
+
 /// What every call is lent.
 #[derive(Clone, PartialEq)]
 pub struct Store {
@@ -78,79 +80,6 @@ pub fn lent(call: &Call) -> Vec<u32> {
         Call::Match(request) => request.slots.clone(),
         _ => Vec::new(),
     }
-}
-
-#[rustfmt::skip]
-unsafe extern "C" {
-    fn naldrev_from_runs(
-        names: *const u8, names_len: usize, terms: *const u32, terms_len: usize, terms_used: usize,
-        nodes: *mut u32, nodes_len: usize, nodes_used: *mut usize,
-        runs: *const u32, runs_len: usize,
-        node: *mut usize, len: *mut usize,
-    ) -> usize;
-    fn naldrev_join(
-        names: *const u8, names_len: usize, terms: *const u32, terms_len: usize, terms_used: usize,
-        nodes: *mut u32, nodes_len: usize, nodes_used: *mut usize,
-        left_node: usize, left_len: usize, right_node: usize, right_len: usize,
-        node: *mut usize, len: *mut usize,
-    ) -> usize;
-    fn naldrev_take(
-        names: *const u8, names_len: usize, terms: *const u32, terms_len: usize, terms_used: usize,
-        nodes: *const u32, nodes_len: usize, nodes_used: usize,
-        field_node: usize, field_len: usize, count: usize,
-        node: *mut usize, len: *mut usize,
-    ) -> usize;
-    fn naldrev_rest(
-        names: *const u8, names_len: usize, terms: *const u32, terms_len: usize, terms_used: usize,
-        nodes: *mut u32, nodes_len: usize, nodes_used: *mut usize,
-        field_node: usize, field_len: usize, count: usize,
-        node: *mut usize, len: *mut usize,
-    ) -> usize;
-    fn naldrev_range(
-        names: *const u8, names_len: usize, terms: *const u32, terms_len: usize, terms_used: usize,
-        nodes: *mut u32, nodes_len: usize, nodes_used: *mut usize,
-        field_node: usize, field_len: usize, start: usize, count: usize,
-        node: *mut usize, len: *mut usize,
-    ) -> usize;
-    fn naldrev_starts_with(
-        names: *const u8, names_len: usize, terms: *const u32, terms_len: usize, terms_used: usize,
-        nodes: *const u32, nodes_len: usize, nodes_used: usize,
-        field_node: usize, field_len: usize, front_node: usize, front_len: usize,
-        yes: *mut usize,
-    ) -> usize;
-    fn naldrev_equal(
-        names: *const u8, names_len: usize, terms: *const u32, terms_len: usize, terms_used: usize,
-        nodes: *const u32, nodes_len: usize, nodes_used: usize,
-        left_node: usize, left_len: usize, right_node: usize, right_len: usize,
-        yes: *mut usize,
-    ) -> usize;
-    fn naldrev_flatten(
-        names: *const u8, names_len: usize, terms: *const u32, terms_len: usize, terms_used: usize,
-        nodes: *const u32, nodes_len: usize, nodes_used: usize,
-        field_node: usize, field_len: usize, work: *mut u32, work_len: usize,
-        in_work: *mut usize, start: *mut usize, count: *mut usize,
-    ) -> usize;
-    fn naldrev_compare_runs(
-        names: *const u8, names_len: usize, terms: *const u32, terms_len: usize, terms_used: usize,
-        first_start: usize, first_len: usize, second_start: usize, second_len: usize,
-        yes: *mut usize,
-    ) -> usize;
-    fn naldrev_match_pattern_with_bindings_candidates(
-        names: *const u8, names_len: usize, terms: *mut u32, terms_len: usize, terms_used: *mut usize,
-        nodes: *const u32, nodes_len: usize, nodes_used: usize,
-        field_node: usize, field_len: usize,
-        pattern: *const u32, pattern_len: usize, bindings: *const u32, bindings_len: usize,
-        slots: *mut u32, slots_len: usize,
-        count: *mut usize, entries: *mut usize,
-    ) -> usize;
-    fn naldrev_match_pattern_first(
-        names: *const u8, names_len: usize, terms: *mut u32, terms_len: usize, terms_used: *mut usize,
-        nodes: *const u32, nodes_len: usize, nodes_used: usize,
-        field_node: usize, field_len: usize,
-        pattern: *const u32, pattern_len: usize, bindings: *const u32, bindings_len: usize,
-        slots: *mut u32, slots_len: usize,
-        count: *mut usize, entries: *mut usize,
-    ) -> usize;
 }
 
 /// Makes a call on a copy of the store.

@@ -1,98 +1,88 @@
 //! Adding terms to a store, and reading them back.
 
-use super::{Field, Flat, Run, Store, DEPTH, MAX_NAMES, MAX_TERMS, MAX_VALUES, TERM, TEXT};
-use crate::value::{UnknownKind, Value};
-use crate::Refusal;
+use std::fmt;
+
+use super::{Field, Flat, Run, Store, MAX_VALUES};
+use crate::records::{term, MAX_DEPTH, MAX_TERMS, MAX_TEXT, TERM_WIDTH};
+use crate::text::Printer;
+use crate::value::{Expression, UnknownKind, Value};
+use crate::{Error, Refusal};
 
 pub(super) fn is_identifier(text: &str) -> bool {
-    text.len() <= TEXT && text.starts_with(|c: char| c.is_ascii_alphabetic()) && is_name(text)
+    text.starts_with(|c: char| c.is_ascii_alphabetic()) && is_name(text)
 }
 
 pub(super) fn is_number(text: &str) -> bool {
-    (1..=TEXT).contains(&text.len()) && text.bytes().all(|b| b.is_ascii_digit())
+    (1..=MAX_TEXT).contains(&text.len()) && text.bytes().all(|b| b.is_ascii_digit())
 }
 
 pub(super) fn is_name(text: &str) -> bool {
-    (1..=TEXT).contains(&text.len()) && text.bytes().all(|b| b.is_ascii_alphanumeric() || b == b'-' || b == b'_')
+    (1..=MAX_TEXT).contains(&text.len()) && text.bytes().all(|b| b.is_ascii_alphanumeric() || b == b'-' || b == b'_')
 }
 
 impl Store {
-    /// The place of a text in the names, where it is added if it does not stand there yet.
-    pub(super) fn text(&mut self, text: &str) -> Result<[u32; 2], Refusal> {
-        let bytes = text.as_bytes();
-        let found = self.names.windows(bytes.len().max(1)).position(|w| w == bytes);
-        let at = match found {
-            Some(at) => at,
-            None if self.names.len() + bytes.len() > MAX_NAMES => return Err(Refusal::Uneven),
-            None => {
-                self.names.extend_from_slice(bytes);
-                self.names.len() - bytes.len()
-            }
-        };
-        let word = |n: usize| u32::try_from(n).map_err(|_| Refusal::Uneven);
-        Ok([word(at)?, word(bytes.len())?])
-    }
-
-    fn put(&mut self, term: [u32; TERM]) -> Result<Run, Refusal> {
+    fn put(&mut self, words: [u32; TERM_WIDTH]) -> Result<Run, Error> {
         self.term_room(1)?;
         let start = self.terms_used;
-        self.terms[start * TERM..][..TERM].copy_from_slice(&term);
+        self.terms[start * TERM_WIDTH..][..TERM_WIDTH].copy_from_slice(&words);
         self.terms_used += 1;
-        Ok(Run { start, len: 1 })
+        Ok(self.run(start, 1))
+    }
+
+    /// Adds a term with a text; `good` says whether the text keeps the rule of its kind.
+    fn put_text(&mut self, kind: u32, text: &str, good: bool) -> Result<Run, Error> {
+        if !good {
+            return Err(Refusal::BadTerm.into());
+        }
+        self.term_room(1)?;
+        let [at, len] = self.names.place(text)?;
+        self.put([kind, at, len, 0])
     }
 
     /// Adds a character.
-    pub fn add_char(&mut self, c: char) -> Result<Run, Refusal> {
-        self.put([0, u32::from(c), 0, 0])
+    pub fn add_char(&mut self, c: char) -> Result<Run, Error> {
+        self.put([term::CHAR, u32::from(c), 0, 0])
     }
 
     /// Adds an identifier. [`Refusal::BadTerm`] if the text is none.
-    pub fn add_identifier(&mut self, text: &str) -> Result<Run, Refusal> {
-        if !is_identifier(text) {
-            return Err(Refusal::BadTerm);
-        }
-        self.term_room(1)?;
-        let [at, len] = self.text(text)?;
-        self.put([1, at, len, 0])
+    pub fn add_identifier(&mut self, text: &str) -> Result<Run, Error> {
+        self.put_text(term::IDENTIFIER, text, is_identifier(text))
     }
 
     /// Adds a number. [`Refusal::BadTerm`] if the text is none.
-    pub fn add_number(&mut self, text: &str) -> Result<Run, Refusal> {
-        if !is_number(text) {
-            return Err(Refusal::BadTerm);
-        }
-        self.term_room(1)?;
-        let [at, len] = self.text(text)?;
-        self.put([2, at, len, 0])
+    pub fn add_number(&mut self, text: &str) -> Result<Run, Error> {
+        self.put_text(term::NUMBER, text, is_number(text))
     }
 
     /// Adds a bracket over a run of used terms. [`Refusal::PastEnd`] if the run is not within them, [`Refusal::BadTerm`] if the bracket would
     /// be over 255 deep.
-    pub fn add_bracket(&mut self, contents: Run) -> Result<Run, Refusal> {
+    pub fn add_bracket(&mut self, contents: Run) -> Result<Run, Error> {
+        self.check_run(contents)?;
         self.term_room(1)?;
-        let end = contents.start.checked_add(contents.len).filter(|n| *n <= self.terms_used).ok_or(Refusal::PastEnd)?;
-        let inside = &self.terms[contents.start * TERM..end * TERM];
-        let deepest = inside.chunks_exact(TERM).filter(|t| t[0] == 3).map(|t| t[3]).max().unwrap_or(0);
-        if deepest >= DEPTH {
-            return Err(Refusal::BadTerm);
+        let (start, len) = contents.pair();
+        let end = start.checked_add(len).filter(|n| *n <= self.terms_used).ok_or(Refusal::PastEnd)?;
+        let inside = &self.terms[start * TERM_WIDTH..end * TERM_WIDTH];
+        let deepest = inside.chunks_exact(TERM_WIDTH).filter(|t| t[0] == term::BRACKET).map(|t| t[3]).max().unwrap_or(0);
+        if deepest as usize >= MAX_DEPTH {
+            return Err(Refusal::BadTerm.into());
         }
         let [start, len] = contents.words()?;
-        self.put([3, start, len, deepest + 1])
+        self.put([term::BRACKET, start, len, deepest + 1])
     }
 
     /// Adds an unknown.
-    pub fn add_unknown(&mut self, kind: UnknownKind, level: u32, index: u32) -> Result<Run, Refusal> {
-        self.put([4, kind as u32, level, index])
+    pub fn add_unknown(&mut self, kind: UnknownKind, level: u32, index: u32) -> Result<Run, Error> {
+        self.put([term::UNKNOWN, kind as u32, level, index])
     }
 
-    /// Adds values one after another, the contents of their brackets before them. If one is refused, those before it stay.
-    pub fn add(&mut self, values: &[Value]) -> Result<Run, Refusal> {
-        self.add_level(values, 0)
+    /// Adds values one after another, the contents of their brackets before them. If one is refused, none is added.
+    pub fn add(&mut self, values: &[Value]) -> Result<Run, Error> {
+        self.all_or_nothing(|store| store.add_level(values, 0))
     }
 
-    fn add_level(&mut self, values: &[Value], depth: u32) -> Result<Run, Refusal> {
-        if depth > DEPTH {
-            return Err(Refusal::BadTerm);
+    fn add_level(&mut self, values: &[Value], depth: usize) -> Result<Run, Error> {
+        if depth > MAX_DEPTH {
+            return Err(Refusal::BadTerm.into());
         }
         let mut contents = Vec::new();
         for value in values {
@@ -111,54 +101,159 @@ impl Store {
                 Value::Unknown { kind, level, index } => self.add_unknown(*kind, *level, *index)?,
             };
         }
-        Ok(Run { start, len: values.len() })
+        Ok(self.run(start, values.len()))
     }
 }
 
 // ---- reading back ----
 
+/// A term's record as it is read, with its texts and contents still in the store.
+enum Record<'a> {
+    Char(char),
+    Identifier(&'a str),
+    Number(&'a str),
+    Bracket(&'a [u32]),
+    Unknown { kind: UnknownKind, level: u32, index: u32 },
+}
+
+/// The terms of a run, to be shown or read.
+#[derive(Clone, Copy, Debug)]
+pub struct Terms<'a> {
+    store: &'a Store,
+    run: Run,
+}
+
+impl<'a> Terms<'a> {
+    /// The run.
+    pub fn run(self) -> Run {
+        self.run
+    }
+
+    /// How many terms there are, the contents of brackets not counted.
+    pub fn len(self) -> usize {
+        self.run.len()
+    }
+
+    /// Whether there is none.
+    pub fn is_empty(self) -> bool {
+        self.run.is_empty()
+    }
+
+    /// The terms with their contents. [`Error::TooLarge`] if they are over [`MAX_VALUES`].
+    pub fn read(self) -> Result<Expression, Error> {
+        let mut left = MAX_VALUES;
+        self.store.read_level(self.words()?, 0, &mut left)
+    }
+
+    fn words(self) -> Result<&'a [u32], Refusal> {
+        self.store.run_words(self.run.start(), self.run.len())
+    }
+}
+
+/// In the text form. Terms of over [`MAX_VALUES`] values are cut there, and so are records that break their rule: `...` stands for the rest.
+impl fmt::Display for Terms<'_> {
+    fn fmt(&self, f: &mut fmt::Formatter<'_>) -> fmt::Result {
+        let mut printer = Printer::new(f);
+        let mut left = MAX_VALUES;
+        let whole = match self.words() {
+            Ok(words) => self.store.print_level(words, 0, &mut left, &mut printer)?,
+            Err(_) => false,
+        };
+        if !whole {
+            printer.word("...")?;
+        }
+        printer.finish()
+    }
+}
+
 impl Store {
-    /// A field's terms with their contents.
-    pub fn values(&self, field: Field) -> Result<Vec<Value>, Refusal> {
-        let mut work = vec![0; field.len.min(MAX_TERMS) * TERM];
+    /// A field's terms with their contents. [`Error::TooLarge`] if they are over [`MAX_VALUES`].
+    pub fn values(&self, field: Field) -> Result<Expression, Error> {
+        let mut work = vec![0; field.len().min(MAX_TERMS) * TERM_WIDTH];
         let mut left = MAX_VALUES;
         match self.flatten(field, &mut work)? {
-            Flat::InStore(run) => self.read_run(run, &mut left),
-            Flat::InWork(count) => work[..count * TERM].chunks_exact(TERM).map(|t| self.read(t, &mut left)).collect(),
+            Flat::InStore(run) => self.terms(run)?.read(),
+            Flat::InWork(count) => self.read_level(&work[..count * TERM_WIDTH], 0, &mut left),
         }
     }
 
-    /// The terms of a run with their contents.
-    pub fn run_values(&self, run: Run) -> Result<Vec<Value>, Refusal> {
-        // Comparing it with itself makes the library's checks of the terms and of the run.
-        self.compare_runs(run, run)?;
-        let mut left = MAX_VALUES;
-        self.read_run(run, &mut left)
+    /// The terms of a run. [`Refusal::PastEnd`] if it is not within the used terms.
+    pub fn terms(&self, run: Run) -> Result<Terms<'_>, Error> {
+        self.check_run(run)?;
+        let terms = Terms { store: self, run };
+        terms.words()?;
+        Ok(terms)
     }
 
-    /// Reads a run that the library has checked.
-    fn read_run(&self, run: Run, left: &mut usize) -> Result<Vec<Value>, Refusal> {
-        let words = self.terms.get(run.start * TERM..(run.start + run.len) * TERM).ok_or(Refusal::PastEnd)?;
-        words.chunks_exact(TERM).map(|t| self.read(t, left)).collect()
+    /// The words of a run of used terms.
+    fn run_words(&self, start: usize, len: usize) -> Result<&[u32], Refusal> {
+        let end = start.checked_add(len).filter(|end| *end <= self.terms_used).ok_or(Refusal::PastEnd)?;
+        self.terms.get(start * TERM_WIDTH..end * TERM_WIDTH).ok_or(Refusal::PastEnd)
     }
 
-    fn read(&self, term: &[u32], left: &mut usize) -> Result<Value, Refusal> {
-        *left = left.checked_sub(1).ok_or(Refusal::TooLong)?;
-        let (a, b) = (term[1] as usize, term[2] as usize);
-        Ok(match term[0] {
-            0 => Value::Char(char::from_u32(term[1]).ok_or(Refusal::BadTerm)?),
-            1 => Value::Identifier(self.read_text(a, b)?),
-            2 => Value::Number(self.read_text(a, b)?),
-            3 => Value::Bracket(self.read_run(Run { start: a, len: b }, left)?),
-            _ => {
-                let kind = *UnknownKind::ALL.get(a).ok_or(Refusal::BadTerm)?;
-                Value::Unknown { kind, level: term[2], index: term[3] }
+    /// Reads terms that stand one after another. Their records are looked at as they come: words made elsewhere may hold anything.
+    fn read_level(&self, words: &[u32], depth: usize, left: &mut usize) -> Result<Expression, Error> {
+        if depth > MAX_DEPTH {
+            return Err(Refusal::BadTerm.into());
+        }
+        let value = |term: &[u32]| {
+            *left = left.checked_sub(1).ok_or(Error::TooLarge)?;
+            Ok(match self.record(term)? {
+                Record::Char(c) => Value::Char(c),
+                Record::Identifier(text) => Value::Identifier(text.into()),
+                Record::Number(text) => Value::Number(text.into()),
+                Record::Bracket(contents) => Value::Bracket(self.read_level(contents, depth + 1, left)?.0),
+                Record::Unknown { kind, level, index } => Value::Unknown { kind, level, index },
+            })
+        };
+        words.chunks_exact(TERM_WIDTH).map(value).collect()
+    }
+
+    /// Prints terms that stand one after another; whether it came to their end.
+    fn print_level<W: fmt::Write>(
+        &self,
+        words: &[u32],
+        depth: usize,
+        left: &mut usize,
+        printer: &mut Printer<'_, W>,
+    ) -> Result<bool, fmt::Error> {
+        for term in words.chunks_exact(TERM_WIDTH) {
+            let Ok(record) = self.record(term) else { return Ok(false) };
+            if *left == 0 {
+                return Ok(false);
             }
+            *left -= 1;
+            match record {
+                Record::Char(c) => printer.char(c)?,
+                Record::Identifier(text) | Record::Number(text) => printer.word(text)?,
+                Record::Unknown { kind, level, index } => printer.unknown(kind, level, index)?,
+                Record::Bracket(contents) => {
+                    printer.open()?;
+                    let whole = depth < MAX_DEPTH && self.print_level(contents, depth + 1, left, printer)?;
+                    if !whole {
+                        return Ok(false);
+                    }
+                    printer.close()?;
+                }
+            }
+        }
+        Ok(true)
+    }
+
+    fn record(&self, words: &[u32]) -> Result<Record<'_>, Refusal> {
+        let (a, b) = (words[1] as usize, words[2] as usize);
+        Ok(match words[0] {
+            term::CHAR => Record::Char(char::from_u32(words[1]).ok_or(Refusal::BadTerm)?),
+            term::IDENTIFIER => Record::Identifier(self.read_text(a, b)?),
+            term::NUMBER => Record::Number(self.read_text(a, b)?),
+            term::BRACKET => Record::Bracket(self.run_words(a, b)?),
+            term::UNKNOWN => Record::Unknown { kind: *UnknownKind::ALL.get(a).ok_or(Refusal::BadTerm)?, level: words[2], index: words[3] },
+            _ => return Err(Refusal::BadTerm),
         })
     }
 
-    pub(super) fn read_text(&self, at: usize, len: usize) -> Result<String, Refusal> {
-        let bytes = self.names.get(at..at + len).ok_or(Refusal::BadTerm)?;
-        String::from_utf8(bytes.to_vec()).map_err(|_| Refusal::BadTerm)
+    pub(super) fn read_text(&self, at: usize, len: usize) -> Result<&str, Refusal> {
+        let bytes = self.names.bytes().get(at..at + len).ok_or(Refusal::BadTerm)?;
+        std::str::from_utf8(bytes).map_err(|_| Refusal::BadTerm)
     }
 }

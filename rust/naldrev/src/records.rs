@@ -1,0 +1,51 @@
+//! The records of words: their widths, their kinds and their limits, as docs/REFERENCE.md in the repository has them.
+
+/// The words of a term: kind, a, b, c.
+pub const TERM_WIDTH: usize = 4;
+/// The words of a node.
+pub const NODE_WIDTH: usize = 6;
+/// The words of a run: start and length.
+pub const RUN_WIDTH: usize = 2;
+/// The words of a record of a pattern.
+pub const PATTERN_WIDTH: usize = 4;
+/// The words of a starting binding.
+pub const BINDING_WIDTH: usize = 5;
+
+/// The most bytes of names.
+pub const MAX_NAMES: usize = 65_536;
+/// The most terms of a store.
+pub const MAX_TERMS: usize = 65_536;
+/// The most nodes of a store.
+pub const MAX_NODES: usize = 65_536;
+/// The most bytes of an identifier, a number or the name of a variable.
+pub const MAX_TEXT: usize = 255;
+/// The deepest bracket of terms.
+pub const MAX_DEPTH: usize = 255;
+/// The deepest bracket of a pattern.
+pub const MAX_NESTING: usize = 32;
+/// The most records of a pattern; a bracket is two.
+pub const MAX_RECORDS: usize = 256;
+/// The most variables of a pattern and its starting bindings together.
+pub const MAX_VARIABLES: usize = 64;
+/// The most runs of a list.
+pub const MAX_RUNS: usize = 64;
+
+/// The first word of a term. The first three are kinds of pattern records too.
+pub(crate) mod term {
+    pub(crate) const CHAR: u32 = 0;
+    pub(crate) const IDENTIFIER: u32 = 1;
+    pub(crate) const NUMBER: u32 = 2;
+    pub(crate) const BRACKET: u32 = 3;
+    pub(crate) const UNKNOWN: u32 = 4;
+}
+
+/// The first word of a record of a pattern. Those of variables are kinds of bindings too.
+pub(crate) mod item {
+    pub(crate) const OPEN: u32 = 3;
+    pub(crate) const CLOSE: u32 = 4;
+    pub(crate) const S_VARIABLE: u32 = 5;
+    pub(crate) const T_VARIABLE: u32 = 6;
+    pub(crate) const E_VARIABLE: u32 = 7;
+    pub(crate) const CALL: u32 = 8;
+    pub(crate) const BLOCK: u32 = 9;
+}
