@@ -49,3 +49,25 @@ pub(crate) mod item {
     pub(crate) const CALL: u32 = 8;
     pub(crate) const BLOCK: u32 = 9;
 }
+
+// ---- texts ----
+
+/// A letter, a digit, `-` or `_`.
+pub(crate) fn is_name_byte(byte: u8) -> bool {
+    byte.is_ascii_alphanumeric() || matches!(byte, b'-' | b'_')
+}
+
+/// Whether a text is spelled as an identifier, whatever its length.
+pub(crate) fn spells_identifier(text: &str) -> bool {
+    text.starts_with(|c: char| c.is_ascii_alphabetic()) && text.bytes().all(is_name_byte)
+}
+
+/// Whether a text is spelled as a number, whatever its length.
+pub(crate) fn spells_number(text: &str) -> bool {
+    !text.is_empty() && text.bytes().all(|byte| byte.is_ascii_digit())
+}
+
+/// Whether a text is spelled as the name of a variable, whatever its length.
+pub(crate) fn spells_name(text: &str) -> bool {
+    !text.is_empty() && text.bytes().all(is_name_byte)
+}

@@ -3,21 +3,21 @@
 use std::fmt;
 
 use super::{Field, Flat, Run, Store, MAX_VALUES};
-use crate::records::{term, MAX_DEPTH, MAX_TERMS, MAX_TEXT, TERM_WIDTH};
+use crate::records::{spells_identifier, spells_name, spells_number, term, MAX_DEPTH, MAX_TERMS, MAX_TEXT, TERM_WIDTH};
 use crate::text::Printer;
 use crate::value::{Expression, UnknownKind, Value};
 use crate::{Error, Refusal};
 
 pub(super) fn is_identifier(text: &str) -> bool {
-    text.starts_with(|c: char| c.is_ascii_alphabetic()) && is_name(text)
+    text.len() <= MAX_TEXT && spells_identifier(text)
 }
 
 pub(super) fn is_number(text: &str) -> bool {
-    (1..=MAX_TEXT).contains(&text.len()) && text.bytes().all(|b| b.is_ascii_digit())
+    text.len() <= MAX_TEXT && spells_number(text)
 }
 
 pub(super) fn is_name(text: &str) -> bool {
-    (1..=MAX_TEXT).contains(&text.len()) && text.bytes().all(|b| b.is_ascii_alphanumeric() || b == b'-' || b == b'_')
+    text.len() <= MAX_TEXT && spells_name(text)
 }
 
 impl Store {

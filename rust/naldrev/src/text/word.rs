@@ -5,6 +5,7 @@ use std::borrow::Cow;
 use super::lexer::{is_blank, Mode, Token};
 use super::printer::write_shown;
 use super::{kind_at, MAX_TEXT};
+use crate::records::{is_name_byte, spells_identifier, spells_number};
 use crate::{Expression, Value};
 
 /// The most characters of a word that an error shows.
@@ -12,14 +13,6 @@ const SHOWN: usize = 60;
 
 /// A token with how many bytes it is written in, or what is wrong with the word.
 type Read<'a> = Result<(Token<'a>, usize), String>;
-
-fn is_name_byte(byte: u8) -> bool {
-    byte.is_ascii_alphanumeric() || matches!(byte, b'-' | b'_')
-}
-
-fn is_identifier(word: &str) -> bool {
-    word.starts_with(|c: char| c.is_ascii_alphabetic()) && word.bytes().all(is_name_byte)
-}
 
 /// How many bytes a name has that the text starts with. A name ends where a variable begins: `Items.1` is `Item`, then `s.1`.
 fn name_length(text: &str) -> usize {
@@ -31,7 +24,7 @@ fn name_length(text: &str) -> usize {
 /// The identifier that a text starts with, which is followed by no name byte.
 pub(super) fn identifier_at(text: &str) -> Option<&str> {
     let end = text.bytes().position(|byte| !is_name_byte(byte)).unwrap_or(text.len());
-    Some(&text[..end]).filter(|word| is_identifier(word))
+    Some(&text[..end]).filter(|word| spells_identifier(word))
 }
 
 /// Whether an unknown was meant.
@@ -79,9 +72,9 @@ pub(super) fn read(word: &str, mode: Mode) -> Read<'_> {
     if is_unknown(word) {
         return unknown(word, mode);
     }
-    let (token, what) = if is_identifier(word) {
+    let (token, what) = if spells_identifier(word) {
         (Token::Identifier(word), "an identifier")
-    } else if word.bytes().all(|byte| byte.is_ascii_digit()) {
+    } else if spells_number(word) {
         (Token::Number(word), "a number")
     } else {
         return Err(no_word(word, mode));
@@ -141,11 +134,11 @@ pub(super) fn double_quoted(text: &str, mode: Mode) -> String {
         return "double quotes are not read; characters stand in single quotes".into();
     };
     let identifier = |word: &str| if mode == Mode::Message { word.to_string() } else { pattern_identifier(word).into_owned() };
-    if is_identifier(inner) {
+    if spells_identifier(inner) {
         return format!("an identifier stands without double quotes: write {}", shown(&identifier(inner)));
     }
     let joined = inner.replace(is_blank, "-");
-    if is_identifier(&joined) {
+    if spells_identifier(&joined) {
         return format!("identifiers have no blanks: write {}, or {} for characters", shown(&identifier(&joined)), quoted(inner));
     }
     format!("double quotes are not read; as characters the text is written {}", quoted(inner))
