@@ -1,7 +1,7 @@
 /* Fuzzes the static library: calls every export of naldrev.h on stores that are valid, damaged or random, in buffers of the exact lengths.
      library [--seed N] [--cases N] [--case I] [--malloc] [--no-limits]
    A case makes its stores and then makes some calls, each on what the last one left. After each call every lent word is compared: a
-   refusal has to leave all of them, but for the settled copy of 10, 11 and 15; an accepted call may write only what document 01 says.
+   refusal has to leave all of them, but for the settled copy of 10, 11 and 15; an accepted call may write only what docs/REFERENCE.md says.
    Answers have to be among those that the call can give, and what a call built, listed, read or wrote is read again here.
    Buffers stand beside pages that cannot be touched; with --malloc they come from malloc, for valgrind. --case I runs one case alone.
    Exit status: 0 no fault, 1 a fault (with its seed, case and call), 2 bad usage. */

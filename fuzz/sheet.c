@@ -1,6 +1,6 @@
 /* Fuzzes the program `sheet` with valid, damaged and random sheets.
      sheet PROGRAM [--seed N] [--cases N] [--case I] [--valgrind] [--keep FILE]
-   What it prints has to be document 01's answer, byte for byte (see sheets.h), and naldrev_run_sheet has to write the same. The program has
+   What it prints has to be the answer of docs/SHEET.md, byte for byte (see sheets.h), and naldrev_run_sheet has to write the same. The program has
    to end with status 0. --valgrind runs it under valgrind, --case I runs one case alone, and the input of a fault is written to the file of
    --keep.
    Exit status: 0 no fault, 1 a fault (with its seed and case), 2 bad usage. */

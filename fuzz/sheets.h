@@ -1,5 +1,5 @@
 /* Sheets, for both drivers: the draft's records as a text, damage to the text, and the answer to it. The text is read here a second time,
-   by document 01; the field and the listing of the answer come from the static library. */
+   by docs/REFERENCE.md; the field and the listing of the answer come from the static library. */
 #ifndef FUZZ_SHEETS_H
 #define FUZZ_SHEETS_H
 

@@ -1,4 +1,4 @@
-/* What both drivers share: seeded random numbers, and names, terms, nodes, patterns, bindings and runs within document 01's rules, which
+/* What both drivers share: seeded random numbers, and names, terms, nodes, patterns, bindings and runs within the rules of docs/REFERENCE.md, which
    the drivers then damage. */
 #ifndef FUZZ_STATE_H
 #define FUZZ_STATE_H

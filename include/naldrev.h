@@ -1,7 +1,7 @@
 /* Naldrev, a Refal-5 pattern matcher, for C and C++ on x86-64 Linux. `pkg-config --cflags --libs naldrev` has the flags of an installed
    library; docs/C.md says how to install it. naldrev_store.h has these calls with structs and a handful of arguments.
 
-   Records are 32-bit words in slices that the caller lends: a pointer and a length. Document 01 has the rules of each record. A store is a
+   Records are 32-bit words in slices that the caller lends: a pointer and a length. docs/REFERENCE.md has the rules of each record. A store is a
    slice with its used count beside it; node 0 of the nodes, six words of 0, has to be there (nodes_used at least 1).
 
    Units:
@@ -216,7 +216,7 @@ size_t naldrev_match_pattern_first(const uint8_t *names, size_t names_len, uint3
                                    const uint32_t *pattern, size_t pattern_len, const uint32_t *bindings, size_t bindings_len,
                                    uint32_t *slots, size_t slots_len, size_t *count, size_t *entries);
 
-/* ---- sheets: terms, names, a pattern and runs as one text (document 01, "The sheet") ---- */
+/* ---- sheets: terms, names, a pattern and runs as one text (docs/REFERENCE.md, "The sheet") ---- */
 
 /* Reads a sheet. Its words go to the start of terms, pattern and runs; its counts are in records, *name_count in bytes. The names stay in the
    text: *name_count bytes from text + *name_start on. NALDREV_BAD_SHEET if the text is no sheet, NALDREV_WORK_SHORT if a slice is too short

@@ -14,7 +14,7 @@
 
 #define ROW_STEP 2 /* the row is compared with itself, so many terms further */
 
-/* A store to build in, with room for as many terms as document 01 allows. */
+/* A store to build in, with room for as many terms as the limits allow. */
 typedef struct hostile {
     naldrev_store store;
     uint32_t terms[NALDREV_MAX_TERMS * NALDREV_TERM_WIDTH];

@@ -65,7 +65,7 @@ pub fn run_sheet(text: &[u8]) -> Vec<u8> {
 mod tests {
     use super::*;
 
-    /// Document 01's example: e.1 '-' e.2 on --
+    /// The sheet examples/dashes.sheet: e.1 '-' e.2 on --
     const TEXT: &str = "         2         2         3         1
          0        45         0         0
          0        45         0         0
