@@ -371,7 +371,7 @@ decide none none s c = accept s c
 unfoldable pub step : Store → Call → After
 step s c = decide (input s c) (room s c) s c
 
--- ---- for those who lend slots ----
+-- ---- the size of a slot ----
 
 -- The words of pattern and bindings pass 1, 7, 8 and 9.
 unfoldable pub namesRule : List ℕ → List ℕ → List ℕ → Bool

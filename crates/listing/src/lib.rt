@@ -84,7 +84,8 @@ fn refusal(
     0
 }
 
-// The names of pattern and bindings together, for those who lend slots: a slot has twice as many words. 0 where 1, 7, 8 or 9 refuses them.
+// How many names pattern and bindings have together, by which a caller sizes slots: a slot has twice as many words. 0 where 1, 7, 8 or 9
+// refuses them.
 pub fn name_count(names: &[u8], pattern: &[u32], bindings: &[u32]) -> usize
     ensures { λ r. ⌜ r ≡ nameCount (now (names .entry)) (now (pattern .entry)) (now (bindings .entry)) ⌝ }
 {

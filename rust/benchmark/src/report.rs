@@ -17,8 +17,8 @@ pub struct Report {
     lines: Vec<Line>,
 }
 
-/// Work below this part of the whole is not told apart from how the times vary: the table then has a bound instead.
-const TOLD_APART: f64 = 1.0 / 500.0;
+/// Work below this part of the whole is less than the variation between measurements: the table then has a bound instead.
+const MEASURABLE: f64 = 1.0 / 500.0;
 
 /// Rust / work that a listing has to reach. Any other row has to reach 1.
 const LISTING_GOAL: f64 = 5.0;
@@ -49,7 +49,7 @@ fn rounded(time: f64) -> String {
 impl Line {
     /// The port's work alone, and whether that is but a bound of it.
     fn work(&self) -> (f64, bool) {
-        let (work, bound) = (self.times.whole - self.times.checks, self.times.whole * TOLD_APART);
+        let (work, bound) = (self.times.whole - self.times.checks, self.times.whole * MEASURABLE);
         if work < bound { (bound, true) } else { (work, false) }
     }
 
