@@ -199,10 +199,16 @@ fn ends_variable(rest: &str, mode: Mode) -> bool {
     ends_word(rest, mode) || rest.starts_with(STOPS) || kind_at(rest).is_some()
 }
 
+/// Whether a text starts with a digit and has a `:` or `,` between two digits here: 10:15 is shown as wrong in what is passed over too.
+fn between_digits(text: &str, at: usize) -> bool {
+    let digit = |at: usize| text.as_bytes().get(at).is_some_and(u8::is_ascii_digit);
+    text[at..].starts_with(STOPS) && digit(0) && digit(at - 1) && digit(at + 1)
+}
+
 /// The word that a text starts with.
 fn word_of(text: &str, mode: Mode) -> &str {
     let mut places = text.char_indices().skip(1).map(|(at, _)| at);
-    let end = places.find(|at| ends_word(&text[*at..], mode)).unwrap_or(text.len());
+    let end = places.find(|at| ends_word(&text[*at..], mode) && !between_digits(text, *at)).unwrap_or(text.len());
     let word = &text[..end];
     if mode == Mode::Message {
         return word;

@@ -4,7 +4,7 @@ use std::collections::HashMap;
 
 use super::error::Lines;
 use super::lexer::{Lexer, Mode, Token};
-use super::tree::{pass_over, PatternTree};
+use super::tree::{pass_over, PatternTree, COLON};
 use super::word::{identifier_at, shown};
 use super::{TextError, MAX_TEXT};
 use crate::Pattern;
@@ -85,6 +85,7 @@ fn sides(lexer: &mut Lexer, start: usize) -> Result<Pattern, TextError> {
             }
             Token::Sign(';') => break,
             Token::Sign(',') => return Err(lexer.error(at, "conditions are not read: a sentence is PATTERN = RIGHT;")),
+            Token::Sign(':') => return Err(lexer.error(at, COLON)),
             Token::Sign('<') => return Err(lexer.error(at, CALL)),
             Token::Sign('{') => return Err(lexer.error(at, BLOCK)),
             _ => pattern.take(lexer, at, token)?,

@@ -3,6 +3,7 @@
 use std::fmt::{Debug, Display};
 use std::str::FromStr;
 
+use super::tree::COLON;
 use super::*;
 use crate::{e, s, t, Expression, Item, Pattern, Value, Variable};
 
@@ -293,7 +294,7 @@ fn limits_of_patterns() {
 #[test]
 fn sentences_with_and_without_names_and_right_sides() {
     let text = "* prices\nNight : Session s.point (Tariff Night) = <Price s.point '; = )'>;\n\
-                Day:e.1 'x' ; /* none */ = ;\n (kWh s.energy) = { A = s.x; }, <F 1> : 2 * 3 - 4;e.rest";
+                Day:e.1 'x' ; /* none */ = ;\n (kWh s.energy) = { A, <F 1> : s.x = 10 : 15; } 2 * 3 - 4;e.rest";
     assert_eq!(lefts(text), ["Session s.point (Tariff Night)", "e.1 'x'", "", "(kWh s.energy)", "e.rest"]);
     let found = sentences(text).unwrap();
     assert_eq!(found.iter().map(|sentence| sentence.line).collect::<Vec<_>>(), [2, 3, 3, 4, 4]);
@@ -327,7 +328,13 @@ fn errors_of_sentences() {
         ("A = 3.20;", "line 1, column 5: 3.20 is no term; as characters it is written '3.20'"),
         ("A = 'x;", "line 1, column 5: the quote is not closed on its line; a line end is written \\n"),
         ("A = 1\nB = 2;", "line 2, column 3: a second = in the sentence; a sentence ends with ;"),
-        ("A: B: C;", &format!("line 1, column 5: : has no place in a pattern; {PATTERN}")),
+        ("A = 10:15;", "line 1, column 5: 10:15 is no term; as characters it is written '10:15'"),
+        ("A = {(3,20)};", "line 1, column 7: 3,20 is no term; as characters it is written '3,20'"),
+        ("A: B: C;", &format!("line 1, column 5: {COLON}")),
+        ("Night: A\nDay: B;", &format!("line 2, column 4: {COLON}")),
+        ("Night: A = 1\nDay: B;", &format!("line 2, column 4: {COLON}")),
+        ("Night rate: A;", &format!("line 1, column 11: {COLON}")),
+        ("1: A;", &format!("line 1, column 2: {COLON}")),
         ("A /* B;", "line 1, column 3: the comment is not closed"),
     ];
     for (text, said) in cases {

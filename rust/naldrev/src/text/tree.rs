@@ -7,6 +7,9 @@ use super::lexer::{Lexer, Mode, Token};
 use super::{TextError, MAX_DEPTH, MAX_NESTING, MAX_RECORDS, MAX_VARIABLES};
 use crate::{Expression, Item, Pattern, Value, Variable};
 
+/// What is wrong with a `:` that follows no name at the start of a sentence.
+pub(super) const COLON: &str = "a : follows only the name of a sentence, one identifier at its start; is a ; missing before it?";
+
 /// A part of a message or pattern.
 trait Part: Sized {
     /// The deepest bracket.
@@ -174,6 +177,8 @@ pub(super) fn pass_over(lexer: &mut Lexer, opened: Option<(usize, char)>) -> Res
             (';', None) => return Ok(()),
             (';', Some((start, bracket))) if bracket != '{' => return Err(lexer.unclosed(start, &bracket.to_string())),
             ('=', None) => return Err(lexer.error(at, "a second = in the sentence; a sentence ends with ;")),
+            // Without this error, a sentence without = would become part of the right side before it, whose ; was forgotten.
+            (':', None) => return Err(lexer.error(at, COLON)),
             _ => {}
         }
     }

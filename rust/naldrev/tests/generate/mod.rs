@@ -21,8 +21,8 @@ const RIGHTS: [&str; 6] = [
     "s.1",
     "<Price s.energy '; = )' 25>",
     "{ A = 1; e.x = (2); }",
-    "<+ s.1 3> , <F e.1> : { ; }",
-    "'}' /* ; */ e.1e.2 ' '' ;' - 5 * 6 % 7 / 8 ? :",
+    "<+ s.1 3> { s.1 , <F e.1> : { ; } }",
+    "'}' /* ; */ e.1e.2 ' '' ;' - 5 * 6 % 7 / 8 ? ,",
 ];
 /// The limits of a pattern: records, different variables, depth.
 const RECORDS: usize = 256;
