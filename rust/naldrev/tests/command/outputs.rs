@@ -1,4 +1,4 @@
-//! Outputs that cannot be written.
+//! Outputs that cannot be written, and an input that cannot be read.
 
 use super::*;
 
@@ -38,6 +38,11 @@ fn a_full_device() {
 }
 
 #[test]
+fn an_output_that_is_open_for_reading_only() {
+    fails_on(|| File::open("/dev/null").unwrap().into());
+}
+
+#[test]
 fn a_pipe_that_nobody_reads() {
     fails_on(|| {
         let (reader, writer) = std::io::pipe().unwrap();
@@ -62,5 +67,16 @@ fn a_full_standard_error_changes_no_status() {
     for (words, status) in [(["try", "7", "8"], NO_MATCH), (["try", "7", "("], BAD), (["nothing", "7", "8"], BAD)] {
         let ran = program().args(words).stdout(Stdio::null()).stderr(full()).status().unwrap();
         assert_eq!(ran.code(), Some(status), "{words:?}");
+    }
+}
+
+#[test]
+fn an_input_that_is_open_for_writing_only() {
+    for words in [["try", "-", "e.1"], ["join", "-", "examples/tariff/stop.txt"], ["tariff", "examples/tariff/prices.ref", "-"]] {
+        let input = File::options().write(true).open("/dev/null").unwrap();
+        let ran = program().args(words).stdin(input).output().unwrap();
+        let said = String::from_utf8(ran.stderr).unwrap();
+        assert_eq!((ran.status.code(), ran.stdout.len()), (Some(BAD), 0), "{words:?}: {said}");
+        assert!(said.starts_with("-: cannot be read: "), "{words:?}: {said}");
     }
 }

@@ -1,7 +1,9 @@
 //! Texts from the command line, from files and from standard input.
 
 use std::ffi::OsStr;
+use std::fs::File;
 use std::io::{self, Read};
+use std::os::fd::AsFd;
 use std::os::unix::ffi::OsStrExt;
 use std::str::FromStr;
 
@@ -61,9 +63,15 @@ impl Inputs {
             return Err(Failure::new("-: standard input can be read only once"));
         }
         self.stdin_read = true;
-        let mut bytes = Vec::new();
-        Ok(io::stdin().lock().read_to_end(&mut bytes).map(|_| bytes))
+        Ok(read_stdin())
     }
+}
+
+/// Not by `io::stdin`, which takes an input that may not be read for an empty one.
+fn read_stdin() -> io::Result<Vec<u8>> {
+    let mut bytes = Vec::new();
+    File::from(io::stdin().as_fd().try_clone_to_owned()?).read_to_end(&mut bytes)?;
+    Ok(bytes)
 }
 
 /// The bytes as a text of this name, or the position of the first byte that is none.

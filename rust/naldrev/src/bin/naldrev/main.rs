@@ -58,8 +58,11 @@ fn run(words: &[OsString], out: &mut Output) -> Outcome {
 
 fn main() -> ExitCode {
     let words: Vec<OsString> = std::env::args_os().skip(1).collect();
-    let mut out = Output::new();
-    let outcome = run(&words, &mut out).and_then(|status| out.finish().map(|()| status));
+    let outcome = Output::new().and_then(|mut out| {
+        let status = run(&words, &mut out)?;
+        out.finish()?;
+        Ok(status)
+    });
     let status = outcome.unwrap_or_else(|failure| {
         say(&failure);
         Status::Bad

@@ -1,7 +1,9 @@
 //! What the command prints and how it ends.
 
 use std::fmt;
-use std::io::{self, BufWriter, StdoutLock, Write};
+use std::fs::File;
+use std::io::{self, BufWriter, Write};
+use std::os::fd::AsFd;
 
 use naldrev::{Error, TextError, Variable};
 
@@ -59,15 +61,17 @@ pub fn say(what: impl fmt::Display) {
 }
 
 /// Standard output. A failed write is a [`Failure`].
-pub struct Output(BufWriter<StdoutLock<'static>>);
+pub struct Output(BufWriter<File>);
 
 fn failed(error: io::Error) -> Failure {
     Failure(format!("naldrev: standard output cannot be written: {error}"))
 }
 
 impl Output {
-    pub fn new() -> Output {
-        Output(BufWriter::new(io::stdout().lock()))
+    /// Not by `io::stdout`, which drops what is written to an output that may not be written, and says nothing.
+    pub fn new() -> Result<Output, Failure> {
+        let output = io::stdout().as_fd().try_clone_to_owned().map_err(failed)?;
+        Ok(Output(BufWriter::new(output.into())))
     }
 
     pub fn line(&mut self, line: impl fmt::Display) -> Result<(), Failure> {
