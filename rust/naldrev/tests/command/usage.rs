@@ -79,6 +79,18 @@ fn files_that_cannot_be_read() {
 }
 
 #[test]
+fn a_byte_order_mark_is_no_part_of_a_file() {
+    let message = file("mark.txt", b"\xEF\xBB\xBF* Monday\r\nSession A\r\n");
+    let sentences = file("mark.ref", b"\xEF\xBB\xBFAny: Session s.point;");
+    run(["try", &format!("@{message}"), "e.1"]).prints(FITS, "e.1 = Session A\n");
+    run(["join", &message, &message]).prints(FITS, "Session A Session A\n");
+    let out = format!("{message}:2: Any\n1 message: 1 priced, 0 held back, 0 without a sentence\n");
+    run(["tariff", &sentences, &message]).prints(FITS, &out);
+    let bad = file("mark.txt", b"\xEF\xBB\xBF10:15");
+    run(["join", &bad, &bad]).is_bad(&format!("{bad}:1:1: "));
+}
+
+#[test]
 fn bytes_that_are_not_utf_8() {
     let bad = file("bytes.txt", b"Session\n'\xc3\xa9' \xff\n");
     let place = format!("{bad}:2:5: the byte 0xff is not UTF-8\n");

@@ -11,6 +11,9 @@ use naldrev::TextError;
 
 use crate::output::Failure;
 
+/// U+FEFF in UTF-8.
+const BYTE_ORDER_MARK: &[u8] = b"\xEF\xBB\xBF";
+
 /// A text with the name that errors show.
 pub struct Source {
     pub name: String,
@@ -39,9 +42,12 @@ impl Inputs {
         utf8(what, word.as_bytes().to_vec())
     }
 
-    /// An argument that is `FILE`, `@FILE` or `-`.
+    /// An argument that is `FILE`, `@FILE` or `-`. A byte order mark at its start, which editors on Windows write, is no part of the text.
     pub fn file(&mut self, word: &OsStr) -> Result<Source, Failure> {
-        let (name, bytes) = self.bytes(word)?;
+        let (name, mut bytes) = self.bytes(word)?;
+        if bytes.starts_with(BYTE_ORDER_MARK) {
+            bytes.drain(..BYTE_ORDER_MARK.len());
+        }
         utf8(&name, bytes)
     }
 
