@@ -35,7 +35,7 @@ fn messages_that_cannot_be_joined() {
     run(["join", &good, &bad]).is_bad(&format!("{bad}:2:2: "));
     let half = file("half", "a ".repeat(40_000));
     let ran = run(["join", &half, &half]);
-    assert!(ran.status == BAD && ran.out.is_empty() && ran.err.contains("no room for the new terms"), "{}", ran.err);
+    ran.is_bad(&format!("{half}: the terms are over 65536 together"));
 }
 
 #[test]

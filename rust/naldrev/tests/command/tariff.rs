@@ -129,7 +129,7 @@ FILE:4: Night-rate
     let (ran, file) = tariff(&[], PRICES, &format!("{}\nSession C (Night)\n", "a ".repeat(65_537)));
     assert_eq!(ran.status, BAD);
     assert!(ran.out.starts_with(&format!("{file}:1: not tried\n{file}:2: Night-rate\n")), "{}", ran.out);
-    assert!(ran.err.starts_with(&format!("{file}:1: ")), "{}", ran.err);
+    assert!(ran.err.starts_with(&format!("{file}:1: the terms are over 65536 together")), "{}", ran.err);
 }
 
 #[test]

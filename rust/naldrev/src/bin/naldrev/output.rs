@@ -5,7 +5,7 @@ use std::fs::File;
 use std::io::{self, BufWriter, Write};
 use std::os::fd::AsFd;
 
-use naldrev::{Error, TextError, Variable};
+use naldrev::{Error, Refusal, TextError, Variable, MAX_TERMS};
 
 /// The exit status, as users of grep and jq expect it.
 #[derive(Clone, Copy, PartialEq, Eq)]
@@ -43,9 +43,14 @@ impl Failure {
         Failure(format!("{name}:{line}:{column}: {what}"))
     }
 
-    /// What the store says of a file or an argument.
+    /// What the store says of a file or an argument. The command's store only fills up at its limit, so that limit is named.
     pub fn store(name: &str, error: &Error) -> Failure {
-        Failure(format!("{name}: {error}"))
+        match error {
+            Error::Refused(Refusal::TermsFull) => {
+                Failure(format!("{name}: the terms are over {MAX_TERMS} together, those in brackets counted"))
+            }
+            _ => Failure(format!("{name}: {error}")),
+        }
     }
 
     /// Arguments that the command does not take; the first paragraph of the help is shown.

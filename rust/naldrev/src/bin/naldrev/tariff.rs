@@ -91,7 +91,7 @@ fn read_prices(given: &Given, inputs: &mut Inputs, store: &mut Store) -> Result<
         let label = sentence.name.unwrap_or_else(|| format!("sentence {}", i + 1));
         match store.prepare(&sentence.left) {
             Ok(pattern) => Ok(Price { label, pattern }),
-            Err(error) => Err(Failure::new(format!("{}:{}: {label}: {error}", source.name, sentence.line))),
+            Err(error) => Err(Failure::store(&format!("{}:{}: {label}", source.name, sentence.line), &error)),
         }
     });
     prepared.collect()
@@ -142,7 +142,7 @@ impl Week {
             Ok(fitting) => fitting,
             Err(error) => {
                 self.counts.not_tried += 1;
-                say(format_args!("{job}: {error}"));
+                say(Failure::store(&job.to_string(), &error));
                 return out.line(format_args!("{job}: not tried"));
             }
         };
