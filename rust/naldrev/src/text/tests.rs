@@ -220,9 +220,9 @@ fn variables() {
     assert_eq!("e.Item".parse(), Ok(e("item")));
     assert_eq!(printed::<Variable>(" t.a_b-1 "), "t.a_b-1");
     check_errors::<Variable>(&[
-        ("e.1e.2", 1, "expected one term or variable, found 2"),
+        ("e.1e.2", 1, "expected one variable, found 2"),
         ("Day", 1, "expected a variable such as e.Item, found Day"),
-        ("", 1, "expected one term or variable, found 0"),
+        ("", 1, "expected one variable, found 0"),
     ]);
 }
 

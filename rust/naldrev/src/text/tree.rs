@@ -246,7 +246,7 @@ impl FromStr for Variable {
     type Err = TextError;
 
     fn from_str(text: &str) -> Result<Variable, TextError> {
-        match text.parse()? {
+        match only(text, text.parse::<Pattern>()?.0, "variable")? {
             Item::Variable(variable) => Ok(variable),
             other => Err(TextError::new(text, 0, format!("expected a variable such as e.Item, found {other}"))),
         }

@@ -69,6 +69,8 @@ fn a_binding_chooses_among_the_candidates() {
     run(["try", SESSION, METER, "--bind=s.TIME=1140", "--bind", "s.reading = 1208"]).is_no_match();
     run(["try", "--bind", "e.x=(a 'b') 7", "(A 'b') 7 8", "e.x s.y"]).prints(FITS, "e.x = (a 'b') 7\ns.y = 8\n");
     run(["try", "--bind", "e.x=", "7", "e.x s.y"]).prints(FITS, "e.x =\ns.y = 7\n");
+    let found = run(["try", "--json", "--bind", "s.POINT=a", "A", "s.Point"]);
+    found.prints(FITS, "{\"fits\":true,\"more\":false,\"candidates\":[{\"s.Point\":\"a\"}]}\n");
 }
 
 #[test]
@@ -79,11 +81,12 @@ fn bindings_that_cannot_be() {
     with("s.x=7 8").is_bad("--bind 1: s.x stands for one symbol, found: 7 8");
     with("s.x=(7)").is_bad("--bind 1: s.x stands for one symbol");
     with("s.x=?t.1.1").is_bad("--bind 1: s.x stands for one symbol");
-    with("t.y=").is_bad("--bind 1: t.y stands for one term");
+    with("t.y=").is_bad("--bind 1: t.y stands for one term, found: nothing\n");
+    with("=7").is_bad("--bind 1:1:1: expected one variable, found 0");
     with("t.y=?e.1.1").is_bad("--bind 1: t.y stands for one term");
     with("x=7").is_bad("--bind 1:1:1: ");
     with("s.x=10:15").is_bad("--bind 1:1:5: ");
-    run(["try", "7", "s.x", "--bind", "s.x=7", "--bind", "s.X=8"]).is_bad("--bind 2: s.X is bound twice");
+    run(["try", "7", "s.x", "--bind", "s.x=7", "--bind", "s.X=8"]).is_bad("--bind 2: s.x is bound twice");
 }
 
 // ---- how many ----

@@ -132,16 +132,18 @@ fn bind(number: usize, word: &OsStr, variables: &[Variable]) -> Result<Bind, Fai
     let Some((left, right)) = whole.text.split_once('=') else {
         return Err(Failure::new(format!("{name}: expected VARIABLE=TERMS, such as s.point=Harbour-3, found {}", whole.text)));
     };
-    let variable: Variable = Source { name: name.clone(), text: left.into() }.parse()?;
-    if !variables.contains(&variable) {
-        return Err(Failure::new(format!("{name}: the pattern has no variable {variable}")));
-    }
+    let given: Variable = Source { name: name.clone(), text: left.into() }.parse()?;
+    // It is printed as the pattern spells it, so that the keys of JSON are those of the pattern.
+    let Some(variable) = variables.iter().find(|known| **known == given).cloned() else {
+        return Err(Failure::new(format!("{name}: the pattern has no variable {given}")));
+    };
     // The terms keep their columns, so that an error's position is one of the whole argument.
     let before: String = left.chars().map(|_| ' ').collect();
     let terms: Expression = Source { name: name.clone(), text: format!("{before} {right}") }.parse()?;
     if !takes(variable.kind, &terms) {
         let what = if variable.kind == VariableKind::S { "one symbol" } else { "one term" };
-        return Err(Failure::new(format!("{name}: {variable} stands for {what}, found: {terms}")));
+        let found = if terms.is_empty() { "nothing".into() } else { terms.to_string() };
+        return Err(Failure::new(format!("{name}: {variable} stands for {what}, found: {found}")));
     }
     Ok(Bind { name, variable, terms })
 }
