@@ -74,6 +74,7 @@ fn write_all(random: &mut Random, all: &[Expression], gaps: &[&str], ends: &[&st
 
 #[test]
 fn files_of_messages() {
+    let mut refused = 0;
     for seed in 1..=CASES {
         let mut random = Random::new(seed);
         let all: Vec<Expression> = (0..2 + random.below(4)).map(|_| random.message()).collect();
@@ -82,10 +83,16 @@ fn files_of_messages() {
         let (text, expected) = write_all(&mut random, &all, &GAPS, &["\n", "\n\n", "\n \t\n* comment\n"]);
         assert_eq!(messages(&text, Some(Layout::Lines)).as_ref(), Ok(&expected), "{text}");
         let (text, expected) = write_all(&mut random, &all, &BREAKS, &["\n\n", "\r\n \r\n", "\n\n* comment\n\n\n"]);
-        for layout in [None, Some(Layout::Paragraphs)] {
-            assert_eq!(messages(&text, layout).as_ref(), Ok(&expected), "{text}");
+        assert_eq!(messages(&text, Some(Layout::Paragraphs)).as_ref(), Ok(&expected), "{text}");
+        match messages(&text, None) {
+            Ok(found) => assert_eq!(found, expected, "{text}"),
+            Err(error) => {
+                assert!(error.message().starts_with("this line begins as its paragraph does"), "{error} in {text}");
+                refused += 1;
+            }
         }
     }
+    assert!(refused < CASES / 20, "{refused} layouts are not guessed");
 }
 
 // ---- damaged texts ----

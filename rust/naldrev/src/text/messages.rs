@@ -5,10 +5,15 @@ use std::ops::Range;
 use super::error::Lines;
 use super::lexer::{is_blank, Lexer};
 use super::tree::terms;
+use super::word::identifier_at;
 use super::TextError;
 use crate::Expression;
 
-/// How the messages of a file are told apart.
+/// What is wrong with a line that begins as its paragraph does, where the layout is a guess.
+pub(super) const BEGINS_AGAIN: &str =
+    "this line begins as its paragraph does, so it may be a message of its own: tell the layout, lines or paragraphs";
+
+/// How the messages of a file are separated.
 #[derive(Clone, Copy, Debug, PartialEq, Eq, Hash)]
 pub enum Layout {
     /// Each line is a message.
@@ -27,7 +32,8 @@ pub struct Message {
 }
 
 /// Reads the messages of a file. Without a layout they are paragraphs if a blank line stands between two lines that hold terms, else each line
-/// is a message; comments make no difference. Lines and paragraphs that hold only comments give no message.
+/// is a message; comments make no difference. Lines and paragraphs that hold only comments give no message. A paragraph that has a line beginning
+/// with the same identifier as its first one is then an error, since blank lines may stand between groups of messages as well.
 ///
 /// ```
 /// use naldrev::messages;
@@ -51,6 +57,9 @@ pub fn messages(text: &str, layout: Option<Layout>) -> Result<Vec<Message>, Text
             continue;
         }
         let start = lexer.at();
+        if let (None, Some(again)) = (layout, second_start(text, part)) {
+            return Err(lexer.error(again, BEGINS_AGAIN));
+        }
         let terms = terms(&mut lexer)?;
         if terms.is_empty() {
             return Err(lexer.error(start, "a message without terms cannot stand in a file of messages"));
@@ -84,6 +93,15 @@ fn paragraphs(text: &str) -> Vec<Range<usize>> {
         after_blank = blank;
     }
     found
+}
+
+/// Where a paragraph has a further line that begins, in column one, with the same identifier as its first line; comments are passed over.
+fn second_start(text: &str, paragraph: Range<usize>) -> Option<usize> {
+    let part = &text[paragraph.clone()];
+    let mut starts = lines(part).map(|line| line.start).filter(|at| !part[*at..].starts_with('*'));
+    let first = identifier_at(&part[starts.next()?..])?;
+    let again = |at: &usize| identifier_at(&part[*at..]).is_some_and(|word| word.eq_ignore_ascii_case(first));
+    starts.find(again).map(|at| paragraph.start + at)
 }
 
 /// The layout of a file whose reader was told none.

@@ -3,6 +3,7 @@
 use std::fmt::{Debug, Display};
 use std::str::FromStr;
 
+use super::messages::BEGINS_AGAIN;
 use super::tree::COLON;
 use super::*;
 use crate::{e, s, t, Expression, Item, Pattern, Value, Variable};
@@ -384,6 +385,17 @@ fn comments_do_not_change_the_layout() {
 }
 
 #[test]
+fn a_paragraph_that_begins_again() {
+    let days = "Session A\nSession B\n\nSession C\n";
+    assert_eq!(terms(days, Some(Layout::Lines)), rows(&[(1, "Session A"), (2, "Session B"), (4, "Session C")]));
+    assert_eq!(terms(days, Some(Layout::Paragraphs)), rows(&[(1, "Session A Session B"), (4, "Session C")]));
+    // Only a line that begins with the same identifier in column one.
+    let one = rows(&[(1, "Session Sessions Session"), (5, "B")]);
+    assert_eq!(terms("Session\nSessions\n Session\n\nB", None), one);
+    assert_eq!(terms("7\n7\n\n(7)\n(7)", None), rows(&[(1, "7 7"), (4, "(7) (7)")]));
+}
+
+#[test]
 fn errors_in_files_of_messages() {
     let line = "is not closed before the end of its line, and each line is a message";
     let part = "is not closed before the end of its message";
@@ -394,6 +406,8 @@ fn errors_in_files_of_messages() {
         ("A /* x\n\ny */ B", format!("line 1, column 3: the comment {part}")),
         ("A\nB\n'é' 3.20", "line 3, column 5: 3.20 is no term; as characters it is written '3.20'".into()),
         ("A\n ''\nB", "line 2, column 2: a message without terms cannot stand in a file of messages".into()),
+        ("Session A\nSession B\n\nSession C\n", format!("line 2, column 1: {BEGINS_AGAIN}")),
+        ("A\n\n* Monday\nSession A\n* x\n(7)\nSESSION B\n", format!("line 7, column 1: {BEGINS_AGAIN}")),
     ];
     for (text, said) in cases {
         match messages(text, None) {

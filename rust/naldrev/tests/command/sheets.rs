@@ -60,7 +60,7 @@ fn runs_and_pairs_that_cannot_be() {
         with("--runs", bad).is_bad("naldrev sheet: --runs takes START:LENGTH,.. found ");
     }
     for past in ["0:3", "2:1", "18446744073709551615:1"] {
-        with("--runs", past).is_bad(&format!("naldrev sheet: --runs: {past} ends past the 2 terms of the message's outermost level\n"));
+        with("--runs", past).is_bad(&format!("naldrev sheet: --runs: {past} ends past the message's outermost level, which has 2 terms\n"));
     }
     for bad in ["x", "-1", "256", ""] {
         with("--pairs", bad).is_bad("naldrev sheet: --pairs takes a number from 0 to 255, found ");

@@ -60,6 +60,12 @@ fn lines_and_paragraphs() {
         "FILE:1: no sentence fits\nFILE:2: no sentence fits\nFILE:4: Night-rate\n3 messages: 1 priced, 0 held back, 2 without a sentence\n";
     prices(&["--lines"], text, NO_MATCH, lines);
     prices(&["--paragraphs"], "Session A\n(Day)\n", FITS, "FILE:1: Day-rate\n1 message: 1 priced, 0 held back, 0 without a sentence\n");
+    // Blank lines between two days: no session may become a part of another.
+    let days = "Session A (Day)\nSession B (Night)\n\nSession C (Free)\n";
+    let (ran, file) = tariff(&[], PRICES, days);
+    ran.is_bad(&format!("{file}:2:1: this line begins as its paragraph does"));
+    let out = "FILE:1: Day-rate\nFILE:2: Night-rate\nFILE:4: sentence 3\n3 messages: 3 priced, 0 held back, 0 without a sentence\n";
+    prices(&["--lines"], days, FITS, out);
     let (ran, _) = tariff(&["--lines", "--paragraphs"], PRICES, text);
     ran.is_bad("naldrev tariff: --lines and --paragraphs exclude each other\n");
 }
@@ -84,6 +90,8 @@ overlap: sentence 1, sentence 3: 2 messages, first FILE:1
 overlap: sentence 2, sentence 3: 1 message, first FILE:1
 ";
     ran.prints(HELD, &out.replace("FILE", &file));
+    let out = "FILE:1: Day-rate\n1 message: 1 priced, 0 held back, 0 without a sentence\nno overlaps\n";
+    prices(&["--overlaps"], "Session A (Day)", FITS, out);
 }
 
 #[test]

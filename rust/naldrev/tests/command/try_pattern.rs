@@ -76,17 +76,17 @@ fn a_binding_chooses_among_the_candidates() {
 #[test]
 fn bindings_that_cannot_be() {
     let with = |bind: &str| run(["try", "7", "s.x t.y e.z", "--bind", bind]);
-    with("s.x").is_bad("--bind 1: expected VARIABLE=TERMS");
-    with("s.w=7").is_bad("--bind 1: the pattern has no variable s.w");
-    with("s.x=7 8").is_bad("--bind 1: s.x stands for one symbol, found: 7 8");
-    with("s.x=(7)").is_bad("--bind 1: s.x stands for one symbol");
-    with("s.x=?t.1.1").is_bad("--bind 1: s.x stands for one symbol");
-    with("t.y=").is_bad("--bind 1: t.y stands for one term, found: nothing\n");
+    with("s.x").is_bad("--bind 1:1:1: expected VARIABLE=TERMS");
+    with("s.w=7").is_bad("--bind 1:1:1: the pattern has no variable s.w");
+    with("s.x=7 8").is_bad("--bind 1:1:5: s.x stands for one symbol, found: 7 8");
+    with("s.x=(7)").is_bad("--bind 1:1:5: s.x stands for one symbol");
+    with("s.x=?t.1.1").is_bad("--bind 1:1:5: s.x stands for one symbol");
+    with("t.y=").is_bad("--bind 1:1:5: t.y stands for one term, found: nothing\n");
     with("=7").is_bad("--bind 1:1:1: expected one variable, found 0");
-    with("t.y=?e.1.1").is_bad("--bind 1: t.y stands for one term");
+    with("t.y=?e.1.1").is_bad("--bind 1:1:5: t.y stands for one term");
     with("x=7").is_bad("--bind 1:1:1: ");
     with("s.x=10:15").is_bad("--bind 1:1:5: ");
-    run(["try", "7", "s.x", "--bind", "s.x=7", "--bind", "s.X=8"]).is_bad("--bind 2: s.x is bound twice");
+    run(["try", "7", "s.x", "--bind", "s.x=7", "--bind", "s.X=8"]).is_bad("--bind 2:1:1: s.x is bound twice");
 }
 
 // ---- how many ----
@@ -116,7 +116,7 @@ fn the_first_alone() {
 
 #[test]
 fn a_bad_number_of_candidates() {
-    for bad in ["0", "-1", "x", "", "100001", "99999999999999999999"] {
+    for bad in ["0", "-1", "+3", "x", "", "100001", "99999999999999999999"] {
         run(["try", "7", "e.1", "--max", bad]).is_bad(&format!("naldrev try: --max takes a number from 1 to 100000, found {bad}\n"));
     }
     run(["try", "7", "e.1", "--max", "3", "--first"]).is_bad("naldrev try: --first and --max exclude each other\n");

@@ -76,6 +76,8 @@ fn files_that_cannot_be_read() {
         run(words).is_bad(&format!("{folder}: a folder, not a file\n"));
     }
     run(["answer", folder]).is_bad(&format!("{folder}: a folder, not a file\n"));
+    run(["try", "@", "e.1"]).is_bad("expected a file, found \"@\"\n");
+    run(["answer", ""]).is_bad("expected a file, found \"\"\n");
 }
 
 #[test]

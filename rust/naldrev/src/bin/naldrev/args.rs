@@ -15,6 +15,11 @@ pub fn is_version(word: &OsStr) -> bool {
     word == "--version" || word == "-V"
 }
 
+/// The number that a text says in digits alone.
+pub fn number(text: &str) -> Option<usize> {
+    text.parse().ok().filter(|_| text.bytes().all(|byte| byte.is_ascii_digit()))
+}
+
 /// A flag of a command.
 pub struct Flag {
     pub name: &'static str,

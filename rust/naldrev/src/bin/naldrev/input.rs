@@ -55,6 +55,9 @@ impl Inputs {
     pub fn bytes(&mut self, word: &OsStr) -> Result<(String, Vec<u8>), Failure> {
         let file = OsStr::from_bytes(word.as_bytes().strip_prefix(b"@").unwrap_or(word.as_bytes()));
         let name = file.to_string_lossy().into_owned();
+        if name.is_empty() {
+            return Err(Failure::new(format!("expected a file, found {:?}", word.to_string_lossy())));
+        }
         let read = if word == "-" { self.stdin()? } else { std::fs::read(file) };
         match read {
             Ok(bytes) => Ok((name, bytes)),

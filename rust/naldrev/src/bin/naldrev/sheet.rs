@@ -4,9 +4,9 @@ use std::ffi::OsStr;
 
 use naldrev::{Expression, Pattern, Sheet, Store, MAX_DEPTH, MAX_RUNS, SHEET_NAMES, SHEET_TERMS, TERM_WIDTH};
 
-use crate::args::{Command, Flag, Given};
+use crate::args::{number, Command, Flag, Given};
 use crate::input::Inputs;
-use crate::output::{Failure, Outcome, Output, Status};
+use crate::output::{count, Failure, Outcome, Output, Status};
 
 const HELP: &str = "usage: naldrev sheet [--pairs TIMES] [--runs START:LENGTH,..] MESSAGE PATTERN
 
@@ -73,7 +73,7 @@ fn within(what: &str, number: usize, most: usize) -> Result<(), Failure> {
 }
 
 fn times(text: &OsStr) -> Result<usize, Failure> {
-    match text.to_str().and_then(|text| text.parse().ok()) {
+    match text.to_str().and_then(number) {
         Some(times) if times <= MAX_DEPTH => Ok(times),
         _ => Err(COMMAND.usage(&format!("--pairs takes a number from 0 to {MAX_DEPTH}, found {}", text.to_string_lossy()))),
     }
@@ -105,14 +105,14 @@ fn pair(words: &mut Vec<u32>, level: usize, times: usize) -> Result<(), Failure>
 /// Reads `START:LENGTH,..`, counted in the message's outermost level, as runs of the store.
 fn runs(text: &OsStr, start: usize, level: usize) -> Result<Vec<(usize, usize)>, Failure> {
     let text = text.to_string_lossy();
-    let number = |digits: &str| digits.parse::<usize>().ok().filter(|_| digits.bytes().all(|byte| byte.is_ascii_digit()));
     let parts = text.split(',').filter(|_| !text.is_empty()).map(|part| {
         let Some((first, length)) = part.split_once(':').and_then(|(first, length)| Some((number(first)?, number(length)?))) else {
             return Err(COMMAND.usage(&format!("--runs takes START:LENGTH,.. found {part}")));
         };
         if first.checked_add(length).is_none_or(|end| end > level) {
             return Err(Failure::new(format!(
-                "naldrev sheet: --runs: {part} ends past the {level} terms of the message's outermost level"
+                "naldrev sheet: --runs: {part} ends past the message's outermost level, which has {}",
+                count(level, "term")
             )));
         }
         Ok((start + first, length))

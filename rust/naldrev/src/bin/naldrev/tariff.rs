@@ -194,6 +194,9 @@ impl Week {
         let not_tried_part = if not_tried == 0 { String::new() } else { format!(", {not_tried} not tried") };
         let messages = count(jobs.len(), "message");
         out.line(format_args!("{messages}: {priced} priced, {held} held back, {without} without a sentence{not_tried_part}"))?;
+        if self.overlaps.as_ref().is_some_and(BTreeMap::is_empty) {
+            out.line("no overlaps")?;
+        }
         for ((left, right), overlap) in self.overlaps.iter().flatten() {
             let [left, right] = [left, right].map(|number| &self.prices[*number].label);
             let messages = count(overlap.messages, "message");

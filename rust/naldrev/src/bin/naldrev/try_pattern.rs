@@ -5,7 +5,7 @@ use std::os::unix::ffi::OsStrExt;
 
 use naldrev::{Bindings, Candidate, Expression, Item, Pattern, Store, UnknownKind, Value, Variable, VariableKind};
 
-use crate::args::{Command, Flag, Given};
+use crate::args::{number, Command, Flag, Given};
 use crate::input::{utf8, Inputs, Source};
 use crate::json;
 use crate::output::{say, Binding, Failure, Outcome, Output, Status};
@@ -95,7 +95,7 @@ fn wanted(given: &Given) -> Result<Wanted, Failure> {
         (None, true) => Ok(Wanted::First),
         (None, false) => Ok(Wanted::Most(DEFAULT_MAX)),
         (Some(_), true) => Err(COMMAND.usage("--first and --max exclude each other")),
-        (Some(text), false) => match text.to_str().and_then(|text| text.parse().ok()) {
+        (Some(text), false) => match text.to_str().and_then(number) {
             Some(most) if (1..=LARGEST_MAX).contains(&most) => Ok(Wanted::Most(most)),
             _ => {
                 let what = format!("--max takes a number from 1 to {LARGEST_MAX}, found {}", text.to_string_lossy());
@@ -130,12 +130,13 @@ fn bind(number: usize, word: &OsStr, variables: &[Variable]) -> Result<Bind, Fai
     let name = format!("--bind {number}");
     let whole = utf8(&name, word.as_bytes().to_vec())?;
     let Some((left, right)) = whole.text.split_once('=') else {
-        return Err(Failure::new(format!("{name}: expected VARIABLE=TERMS, such as s.point=Harbour-3, found {}", whole.text)));
+        let what = format!("expected VARIABLE=TERMS, such as s.point=Harbour-3, found {}", whole.text);
+        return Err(Failure::place(&name, 1, 1, what));
     };
     let given: Variable = Source { name: name.clone(), text: left.into() }.parse()?;
     // It is printed as the pattern spells it, so that the keys of JSON are those of the pattern.
     let Some(variable) = variables.iter().find(|known| **known == given).cloned() else {
-        return Err(Failure::new(format!("{name}: the pattern has no variable {given}")));
+        return Err(Failure::place(&name, 1, 1, format_args!("the pattern has no variable {given}")));
     };
     // The terms keep their columns, so that an error's position is one of the whole argument.
     let before: String = left.chars().map(|_| ' ').collect();
@@ -143,7 +144,8 @@ fn bind(number: usize, word: &OsStr, variables: &[Variable]) -> Result<Bind, Fai
     if !takes(variable.kind, &terms) {
         let what = if variable.kind == VariableKind::S { "one symbol" } else { "one term" };
         let found = if terms.is_empty() { "nothing".into() } else { terms.to_string() };
-        return Err(Failure::new(format!("{name}: {variable} stands for {what}, found: {found}")));
+        let column = before.chars().count() + 2;
+        return Err(Failure::place(&name, 1, column, format_args!("{variable} stands for {what}, found: {found}")));
     }
     Ok(Bind { name, variable, terms })
 }
@@ -165,7 +167,7 @@ fn bindings(store: &mut Store, binds: &[Bind]) -> Result<Bindings, Failure> {
     let mut runs = Vec::new();
     for (i, bind) in binds.iter().enumerate() {
         if binds[..i].iter().any(|earlier| earlier.variable == bind.variable) {
-            return Err(Failure::new(format!("{}: {} is bound twice", bind.name, bind.variable)));
+            return Err(Failure::place(&bind.name, 1, 1, format_args!("{} is bound twice", bind.variable)));
         }
         let run = store.add(&bind.terms).map_err(|error| Failure::store(&bind.name, &error))?;
         runs.push((bind.variable.clone(), run));
