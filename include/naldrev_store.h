@@ -220,7 +220,8 @@ static inline size_t naldrev_store_list(naldrev_store *store, naldrev_field fiel
 }
 
 /* naldrev_match_pattern_with_bindings_candidates: lists the candidates of a request over a field. It may copy the field's terms after the
-   used ones, so it writes to the store. */
+   used ones, so it writes to the store. So that many listings do not fill it, a program may note terms_used before a listing and set it back
+   once it has read the runs: no node leads to the copy. */
 static inline size_t naldrev_store_candidates(naldrev_store *store, naldrev_field field, const naldrev_request *request,
                                               naldrev_slots *slots)
 {

@@ -359,6 +359,22 @@ static void try_nulls(void)
     EXPECT(naldrev_sheet_read(&sheet, text, written) == NALDREV_OK && sheet.terms_len == 0 && sheet.runs_len == 0);
 }
 
+/* The copy that a listing made is given up, and the next one has room. */
+static void try_again(void)
+{
+    const naldrev_field parts = {3, TERM_ROOM - TERMS}; /* of the join */
+    const naldrev_request request = {patterns[0], LENGTH(patterns[0]), NULL, 0};
+    naldrev_slots slots = {wrapped.slots, SLOT_WORDS, 0, 0};
+    begin();
+    for (int turn = 0; turn < 3; turn++) {
+        EXPECT(naldrev_store_first(&wrapped.store, parts, &request, &slots) == NALDREV_OK && wrapped.store.terms_used == TERM_ROOM);
+        EXPECT(naldrev_slots_run(&slots, 0, 1).start == TERMS);
+        EXPECT(naldrev_store_first(&wrapped.store, parts, &request, &slots) == NALDREV_TERMS_FULL);
+        wrapped.store.terms_used = TERMS;
+    }
+    EXPECT(memcmp(wrapped.nodes, start.nodes, sizeof start.nodes) == 0);
+}
+
 static void try_texts(void)
 {
     const char *unknown = naldrev_text((size_t)-1);
@@ -378,6 +394,7 @@ int main(void)
     try_runs();
     try_flatten();
     try_listings();
+    try_again();
     try_sheets();
     try_init();
     try_nulls();
