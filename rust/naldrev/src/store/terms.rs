@@ -187,8 +187,10 @@ impl Store {
 
     /// The words of a run of used terms.
     fn run_words(&self, start: usize, len: usize) -> Result<&[u32], Refusal> {
-        let end = start.checked_add(len).filter(|end| *end <= self.terms_used).ok_or(Refusal::PastEnd)?;
-        self.terms.get(start * TERM_WIDTH..end * TERM_WIDTH).ok_or(Refusal::PastEnd)
+        // The count of words made elsewhere may pass them.
+        let used = self.terms_used.min(self.terms.len() / TERM_WIDTH);
+        let end = start.checked_add(len).filter(|end| *end <= used).ok_or(Refusal::PastEnd)?;
+        Ok(&self.terms[start * TERM_WIDTH..end * TERM_WIDTH])
     }
 
     /// Reads terms that stand one after another. Their records are looked at as they come: words made elsewhere may hold anything.

@@ -138,6 +138,8 @@ fn terms_grow_up_to_their_limit() {
     }
     assert_eq!(refusal(store.add_char('a')), Refusal::TermsFull);
     assert_eq!(refusal(store.add_unknown(UnknownKind::Term, 0, 0)), Refusal::TermsFull);
+    assert_eq!(refusal(store.add_identifier("Day")), Refusal::TermsFull);
+    assert!(store.names().is_empty());
     assert_eq!(store.term_words().len(), 3 * 4);
 }
 
