@@ -139,12 +139,16 @@ impl Store {
                     self.cut_back(mark);
                     room = room.saturating_mul(2).min(limit);
                 }
-                Ok(listed) => return Ok(self.listing(question, &slots, &listed)),
-                // Nothing rests on the settled copy.
-                Err(refusal) => {
+                Ok(listed) if limit > 0 => return Ok(self.listing(question, &slots, &listed)),
+                // None is listed, so nothing rests on the settled copy.
+                answer => {
                     self.cut_back(mark);
-                    let none = ffi::Listed { count: 0, entries, more: false };
-                    return if refusal == Refusal::NoMatch { Ok(self.listing(question, &[], &none)) } else { Err(refusal.into()) };
+                    let more = match answer {
+                        Ok(_) => true,
+                        Err(Refusal::NoMatch) => false,
+                        Err(refusal) => return Err(refusal.into()),
+                    };
+                    return Ok(self.listing(question, &[], &ffi::Listed { count: 0, entries, more }));
                 }
             }
         }
@@ -171,7 +175,9 @@ impl Store {
 
     /// The slots that the library wrote, as a listing.
     fn listing(&self, question: Question, slots: &[u32], listed: &ffi::Listed) -> Listing {
-        let variables = self.variables(question.pattern, question.start);
+        // Of a first candidate that is not there nobody asks the variables.
+        let unseen = question.head && listed.count == 0;
+        let variables = if unseen { Arc::default() } else { self.variables(question.pattern, question.start) };
         let width = RUN_WIDTH * listed.entries;
         let candidate = |i: usize| Candidate {
             variables: variables.clone(),

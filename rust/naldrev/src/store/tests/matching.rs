@@ -109,6 +109,17 @@ fn no_names_give_one_slot() {
 }
 
 #[test]
+fn none_is_listed_where_none_is_asked_for() {
+    let (mut store, field) = scattered();
+    for items in [vec!['a'.into(), 'c'.into()], vec![e("1").into()]] {
+        let pattern = store.prepare(&items).unwrap();
+        let listing = store.candidates(field, &pattern, &Bindings::NONE, 0).unwrap();
+        assert!(listing.is_empty() && listing.more());
+    }
+    assert_eq!(store.terms_used(), 3, "no copy of the field is left");
+}
+
+#[test]
 fn no_match_is_an_empty_list() {
     let (mut store, field) = scattered();
     let other = store.prepare(&['b'.into(), e("1").into()]).unwrap();
