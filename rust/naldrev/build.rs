@@ -35,21 +35,28 @@ fn made(root: &Path) -> PathBuf {
     root.join("target/staticlib")
 }
 
-/// The folder of an installed library.
+/// The folder of an installed library. Another second number of the version may have other calls, which would be called with wrong arguments.
 fn installed() -> Option<PathBuf> {
-    let output = Command::new("pkg-config").args(["--variable=libdir", "naldrev"]).output().ok()?;
-    let folder = String::from_utf8(output.stdout).ok()?;
-    (output.status.success() && !folder.trim().is_empty()).then(|| PathBuf::from(folder.trim()))
+    let ask = |args: &[&str]| Command::new("pkg-config").args(args).output().ok().filter(|output| output.status.success());
+    ask(&["--exists", "naldrev >= 0.1", "naldrev < 0.2"])?;
+    let folder = String::from_utf8(ask(&["--variable=libdir", "naldrev"])?.stdout).ok()?;
+    (!folder.trim().is_empty()).then(|| PathBuf::from(folder.trim()))
+}
+
+/// Has the next build run this script again: cargo does so where a file that it is to watch is missing.
+fn look_again(folder: &Path) {
+    println!("cargo:rerun-if-changed={}", folder.join(FILES[0].0).display());
 }
 
 fn main() {
     println!("cargo:rerun-if-env-changed=NALDREV_LIB_DIR");
     println!("cargo:rerun-if-env-changed=PKG_CONFIG_PATH");
-    let given = std::env::var_os("NALDREV_LIB_DIR").map(PathBuf::from);
+    let given = std::env::var_os("NALDREV_LIB_DIR").filter(|folder| !folder.is_empty()).map(PathBuf::from);
     let Some(folder) = given.or_else(|| repository().map(|root| made(&root))).or_else(installed) else {
-        warn("no naldrev library was found. Install it (`make install` in the Naldrev repository, which needs the Rattle toolchain),");
+        warn("no naldrev library of version 0.1 was found. Install it (`make install` in the Naldrev repository, which needs the Rattle toolchain),");
         warn("or set NALDREV_LIB_DIR to the folder that holds librefal.a or libnaldrev.a. Without it nothing can be linked.");
         println!("cargo:rustc-link-lib=static=naldrev");
+        look_again(Path::new(&std::env::var_os("OUT_DIR").unwrap_or_default()));
         return;
     };
     println!("cargo:rustc-link-search=native={}", folder.display());
@@ -61,6 +68,7 @@ fn main() {
         None => {
             warn(&format!("neither librefal.a nor libnaldrev.a is in {}: nothing can be linked", folder.display()));
             println!("cargo:rustc-link-lib=static=naldrev");
+            look_again(&folder);
         }
     }
 }
