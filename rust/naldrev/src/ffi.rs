@@ -2,7 +2,9 @@
 //!
 //! What each function of the library asks of its caller (include/naldrev.h): pointers that are not null and point to as many elements as said,
 //! and no overlap between what is lent for writing and anything else. Rust's references give both: a slice's pointer is never null, and a
-//! `&mut` overlaps no other reference. The library keeps no pointer, and answers any contents with a number.
+//! `&mut` overlaps no other reference, so that nothing else writes meanwhile. The library keeps no pointer, and answers any contents with a
+//! number. The stack that a call needs (`STACK_BYTES`) is the thread's: where it is short, the guard page ends the program, for the library
+//! touches each page of a large frame in turn.
 
 use crate::sys::*;
 use crate::Refusal;

@@ -25,6 +25,9 @@
 //! Handles (fields, runs, prepared patterns, bindings, marks) know the store that made them: another store refuses them. A store only fills; thousands
 //! of messages go through one store with [`Store::mark`] and [`Store::put_back`].
 //!
+//! A store may be sent to another thread, and be read by several at once. A call of the library needs up to [`STACK_BYTES`] of stack, which matters for
+//! threads that are given less than the usual 2 MB.
+//!
 //! A [`Sheet`] has terms, names, a pattern and runs as one text, and [`run_sheet`] answers it with one. [`sys`] has the library's functions as C
 //! declares them.
 #![deny(missing_docs, unsafe_code)]
@@ -46,10 +49,15 @@ mod value;
 pub use error::Error;
 pub use pattern::{e, s, t, Item, Pattern, Variable, VariableKind};
 pub use records::{BINDING_WIDTH, NODE_WIDTH, PATTERN_WIDTH, RUN_WIDTH, TERM_WIDTH};
-pub use records::{MAX_DEPTH, MAX_NAMES, MAX_NESTING, MAX_NODES, MAX_RECORDS, MAX_RUNS, MAX_TERMS, MAX_TEXT, MAX_VARIABLES};
+pub use records::{MAX_DEPTH, MAX_NAMES, MAX_NESTING, MAX_NODES, MAX_RECORDS, MAX_RUNS, MAX_TERMS, MAX_TEXT, MAX_VARIABLES, STACK_BYTES};
 pub use refusal::Refusal;
 pub use sheet::{run_sheet, Sheet, SHEET_NAMES, SHEET_TERMS};
 pub use store::MAX_VALUES;
 pub use store::{Bindings, Candidate, Capacity, Field, Flat, Listing, Mark, Prepared, Run, Store, Terms};
 pub use text::{messages, sentences, Layout, Message, Sentence, TextError};
 pub use value::{Expression, UnknownKind, Value};
+
+/// The example of the README, run as a test.
+#[cfg(doctest)]
+#[doc = include_str!("../README.md")]
+struct Readme;

@@ -1,5 +1,13 @@
-//! The functions of the static library as C declares them (include/naldrev.h has what each does and what its caller owes). The one place for these
-//! declarations: the safe functions of this crate, the differential runs and the benchmark all use them.
+//! The functions of the static library as C declares them. The one place for these declarations: the safe functions of this crate, the differential
+//! runs and the benchmark all use them.
+//!
+//! What each does is said in naldrev.h, which is installed with the library. What its caller owes:
+//! - No pointer is null, also where its length is 0; each points to that many elements, aligned.
+//! - What is lent for writing overlaps nothing else that the call is lent, and nothing else writes to what is lent while the call runs.
+//! - There are [`crate::STACK_BYTES`] of stack.
+//!
+//! A length is in elements: bytes of names and texts, words of all else. Counts are in records. Each function but `naldrev_name_count` returns 0,
+//! 15 (the slots are full, and there is a further candidate) or the number of a [`crate::Refusal`].
 
 extern "C" {
     /// The terms of runs, in order.

@@ -96,3 +96,9 @@ fn handles_of_another_store() {
     assert_eq!(candidate.terms(&other).err(), Some(Error::OtherStore));
     assert_eq!(other.values(Field::EMPTY).unwrap().len(), 0);
 }
+
+#[test]
+fn stores_and_handles_go_to_other_threads() {
+    fn shared<T: Send + Sync>() {}
+    shared::<(Store, Field, Run, Mark, Prepared, Bindings, Listing, Candidate)>();
+}
