@@ -1,5 +1,7 @@
 //! The store: names, terms and nodes; the calls on them stand in the modules below it.
 
+use std::fmt;
+
 use crate::records::{MAX_NODES, MAX_TERMS, NODE_WIDTH, TERM_WIDTH};
 use crate::{ffi, Error, Refusal};
 
@@ -23,6 +25,7 @@ pub use terms::Terms;
 /// The most values, brackets and their contents counted, that are read from a store at a time. Brackets may share their contents, so the tree of a
 /// small store can be far larger than the store.
 pub const MAX_VALUES: usize = 1 << 20;
+
 /// Where [`Store::flatten`] found or put a field's terms.
 #[derive(Clone, Copy, Debug, PartialEq, Eq)]
 pub enum Flat {
@@ -56,7 +59,8 @@ impl Default for Capacity {
 ///
 /// A store only grows, up to its limits, so a [`Field`], a [`Run`], a pattern or bindings stay good; until the store is put back to a
 /// [`Mark`] made before them. They belong to the store that made them: another one refuses them ([`Error::OtherStore`]).
-#[derive(Debug)]
+///
+/// It cannot be cloned: a copy would be another store, which refuses the handles.
 pub struct Store {
     names: Names,
     terms: Vec<u32>,
@@ -71,6 +75,18 @@ pub struct Store {
 impl Default for Store {
     fn default() -> Store {
         Store::new()
+    }
+}
+
+/// How much is used, and not the words.
+impl fmt::Debug for Store {
+    fn fmt(&self, f: &mut fmt::Formatter<'_>) -> fmt::Result {
+        let names = self.names.bytes().len();
+        f.debug_struct("Store")
+            .field("names", &names)
+            .field("terms", &self.terms_used)
+            .field("nodes", &self.nodes_used)
+            .finish_non_exhaustive()
     }
 }
 
@@ -157,7 +173,7 @@ impl Store {
     }
 
     /// Frees all that was added since a mark, so that one store serves any number of messages and listings. Fields, runs, patterns, bindings and
-    /// marks made since are refused from then on ([`Error::PutBack`]); those made before stay good.
+    /// marks that rest on it are refused from then on ([`Error::PutBack`]); those made before the mark stay good.
     ///
     /// This is sound because a prefix of a valid store is valid: a record refers only to lower records and to name bytes that stood there when it was
     /// made, and its rule looks at nothing else. So the records before the mark keep their rules, and the fields and runs made of them their terms.

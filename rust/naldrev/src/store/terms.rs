@@ -117,7 +117,7 @@ enum Record<'a> {
 }
 
 /// The terms of a run, to be shown or read.
-#[derive(Clone, Copy, Debug)]
+#[derive(Clone, Copy)]
 pub struct Terms<'a> {
     store: &'a Store,
     run: Run,
@@ -147,6 +147,13 @@ impl<'a> Terms<'a> {
 
     fn words(self) -> Result<&'a [u32], Refusal> {
         self.store.run_words(self.run.start(), self.run.len())
+    }
+}
+
+/// As text: the whole store would be too much.
+impl fmt::Debug for Terms<'_> {
+    fn fmt(&self, f: &mut fmt::Formatter<'_>) -> fmt::Result {
+        write!(f, "Terms({self})")
     }
 }
 

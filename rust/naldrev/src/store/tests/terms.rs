@@ -193,6 +193,8 @@ fn terms_are_shown_as_they_are_written() {
     let text = "Session 'ab' (Meter 0700 ()) ?e.1.2 'c'";
     let run = store.add(&text.parse::<Expression>().unwrap()).unwrap();
     assert_eq!(store.terms(run).unwrap().to_string(), text);
+    assert_eq!(format!("{:?}", store.terms(run).unwrap()), format!("Terms({text})"));
+    assert_eq!(format!("{store:?}"), "Store { names: 16, terms: 9, nodes: 1, .. }");
 }
 
 #[test]
