@@ -115,7 +115,7 @@ const FIRST_SLOTS: usize = 64;
 impl Store {
     /// Lists the candidates of a pattern over a field, from starting bindings: at most `limit`, and whether there are more. Where the pattern does
     /// not fit the listing is empty. With no names there is nothing to tell candidates apart, and at most one is listed. A field that is not one
-    /// run is first copied to the terms; the copy stays as long as there are candidates that rest on it (see [`Store::mark`]).
+    /// run is first copied to the terms. Where candidates are listed the copy stays, for they rest on it; [`Store::put_back`] frees it.
     pub fn candidates(&mut self, field: Field, pattern: &Prepared, start: &Bindings, limit: usize) -> Result<Listing, Error> {
         self.list(field, pattern, start, limit, false)
     }

@@ -85,8 +85,6 @@ fn handles_of_another_store() {
     let pattern = store.prepare(&[e("1").into()]).unwrap();
     let start = store.bindings(&[(e("1"), run)]).unwrap();
     let own = other.prepare(&[e("1").into()]).unwrap();
-    assert_eq!(other.take(field, 1).err(), Some(Error::OtherStore));
-    assert_eq!(other.terms(run).err(), Some(Error::OtherStore));
     assert_eq!(other.add_bracket(run), Err(Error::OtherStore));
     assert_eq!(other.bindings(&[(e("1"), run)]), Err(Error::OtherStore));
     assert_eq!(other.first(Field::EMPTY, &pattern, &Bindings::NONE), Err(Error::OtherStore));
@@ -95,6 +93,37 @@ fn handles_of_another_store() {
     let candidate = store.first(field, &pattern, &Bindings::NONE).unwrap().unwrap();
     assert_eq!(candidate.terms(&other).err(), Some(Error::OtherStore));
     assert_eq!(other.values(Field::EMPTY).unwrap().len(), 0);
+}
+
+#[test]
+fn every_method_looks_whose_a_handle_is() {
+    let (store, foreign) = store_of("abc");
+    let foreign_run = store.run(0, 1);
+    let (mut other, own) = store_of("abc");
+    let own_run = other.run(0, 1);
+    let pattern = other.prepare(&[e("1").into()]).unwrap();
+    let answers = [
+        other.take(foreign, 1).err(),
+        other.rest(foreign, 1).err(),
+        other.range(foreign, 1, 1).err(),
+        other.join(foreign, own).err(),
+        other.join(own, foreign).err(),
+        other.starts_with(foreign, own).err(),
+        other.starts_with(own, foreign).err(),
+        other.equal(foreign, own).err(),
+        other.equal(own, foreign).err(),
+        other.flatten(foreign, &mut []).err(),
+        other.values(foreign).err(),
+        other.candidates(foreign, &pattern, &Bindings::NONE, 1).err(),
+        other.first(foreign, &pattern, &Bindings::NONE).err(),
+        other.compare_runs(foreign_run, own_run).err(),
+        other.compare_runs(own_run, foreign_run).err(),
+        other.from_runs(&[own_run, foreign_run]).err(),
+        other.terms(foreign_run).err(),
+    ];
+    for (number, answer) in answers.into_iter().enumerate() {
+        assert_eq!(answer, Some(Error::OtherStore), "{number}");
+    }
 }
 
 #[test]

@@ -50,7 +50,8 @@ fn patterns_that_break_their_rule() {
 fn bindings_that_break_their_rule() {
     let (mut store, field) = store_of("a");
     let run = store.run(0, 1);
-    assert_eq!(refusal(store.bindings(&[(e("a.b"), run)])), Refusal::BadBinding);
+    assert_eq!(refusal(store.bindings(&[(e("kept-out"), run), (e("a.b"), run)])), Refusal::BadBinding);
+    assert!(store.names().is_empty());
     assert_eq!(refusal(store.bindings(&[(e("a"), store.run(usize::MAX, 0))])), Refusal::PastEnd);
     let pattern = store.prepare(&[e("1").into()]).unwrap();
     let twice = store.bindings(&[(e("X"), run), (e("x"), run)]).unwrap();
