@@ -25,8 +25,8 @@
 //! Handles (fields, runs, prepared patterns, bindings, marks) know the store that made them: another store refuses them. A store only fills; thousands
 //! of messages go through one store with [`Store::mark`] and [`Store::put_back`].
 //!
-//! A store may be sent to another thread, and be read by several at once. A call of the library needs up to [`STACK_BYTES`] of stack, which matters for
-//! threads that are given less than the usual 2 MB.
+//! A store may be sent to another thread, and be read by several at once. A thread that uses this crate needs some stack: up to [`STACK_BYTES`] for
+//! a call of the library, and in a build without optimization somewhat more for brackets 255 deep. 1 MB is enough; Rust's threads have 2 MB.
 //!
 //! A [`Sheet`] has terms, names, a pattern and runs as one text, and [`run_sheet`] answers it with one. [`sys`] has the library's functions as C
 //! declares them.

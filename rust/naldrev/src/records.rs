@@ -30,8 +30,7 @@ pub const MAX_VARIABLES: usize = 64;
 /// The most runs of a list.
 pub const MAX_RUNS: usize = 64;
 
-/// The bytes of stack that a call of the library needs at most. A thread that has less can die of it; Rust's threads have 2 MB where nothing
-/// else is said.
+/// The bytes of stack that a call of the library needs at most. A thread that has less can die of it.
 pub const STACK_BYTES: usize = 393_216;
 
 /// The first word of a term. The first three are kinds of pattern records too.

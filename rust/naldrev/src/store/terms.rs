@@ -205,17 +205,18 @@ impl Store {
         if depth > MAX_DEPTH {
             return Err(Refusal::BadTerm.into());
         }
-        let value = |term: &[u32]| {
+        let mut values = Vec::new();
+        for term in words.chunks_exact(TERM_WIDTH) {
             *left = left.checked_sub(1).ok_or(Error::TooLarge)?;
-            Ok(match self.record(term)? {
+            values.push(match self.record(term)? {
                 Record::Char(c) => Value::Char(c),
                 Record::Identifier(text) => Value::Identifier(text.into()),
                 Record::Number(text) => Value::Number(text.into()),
                 Record::Bracket(contents) => Value::Bracket(self.read_level(contents, depth + 1, left)?.0),
                 Record::Unknown { kind, level, index } => Value::Unknown { kind, level, index },
-            })
-        };
-        words.chunks_exact(TERM_WIDTH).map(value).collect()
+            });
+        }
+        Ok(Expression(values))
     }
 
     /// Prints terms that stand one after another; whether it came to their end.

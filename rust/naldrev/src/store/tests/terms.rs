@@ -112,6 +112,18 @@ fn brackets_255_deep() {
 }
 
 #[test]
+fn a_thread_of_1_mb_is_enough() {
+    let deep = || {
+        let values = (0..255).fold(Vec::new(), |inside, _| vec![Value::Bracket(inside)]);
+        let mut store = Store::new();
+        let field = store.message(&values).unwrap();
+        assert_eq!(store.values(field), Ok(Expression(values)));
+        assert_eq!(store.terms(store.run(254, 1)).unwrap().to_string().len(), 2 * 255);
+    };
+    std::thread::Builder::new().stack_size(1 << 20).spawn(deep).unwrap().join().unwrap();
+}
+
+#[test]
 fn a_refused_value_leaves_nothing() {
     let mut store = Store::with_capacity(Capacity { terms: 1, max_terms: 4, ..Capacity::default() });
     store.add_identifier("Day").unwrap();
