@@ -35,10 +35,18 @@ fn made(root: &Path) -> PathBuf {
     root.join("target/staticlib")
 }
 
-/// The folder of an installed library. Another second number of the version may have other calls, which would be called with wrong arguments.
+/// The first two numbers of this crate's version, which a library has to have: another second number may have other calls, which would be called
+/// with wrong arguments.
+fn version() -> (u32, u32) {
+    let number = |name: &str| std::env::var(name).ok().and_then(|digits| digits.parse().ok()).unwrap_or_default();
+    (number("CARGO_PKG_VERSION_MAJOR"), number("CARGO_PKG_VERSION_MINOR"))
+}
+
+/// The folder of an installed library of this version.
 fn installed() -> Option<PathBuf> {
     let ask = |args: &[&str]| Command::new("pkg-config").args(args).output().ok().filter(|output| output.status.success());
-    ask(&["--exists", "naldrev >= 0.1", "naldrev < 0.2"])?;
+    let (major, minor) = version();
+    ask(&["--exists", &format!("naldrev >= {major}.{minor}"), &format!("naldrev < {major}.{}", minor + 1)])?;
     let folder = String::from_utf8(ask(&["--variable=libdir", "naldrev"])?.stdout).ok()?;
     (!folder.trim().is_empty()).then(|| PathBuf::from(folder.trim()))
 }
@@ -53,8 +61,11 @@ fn main() {
     println!("cargo:rerun-if-env-changed=PKG_CONFIG_PATH");
     let given = std::env::var_os("NALDREV_LIB_DIR").filter(|folder| !folder.is_empty()).map(PathBuf::from);
     let Some(folder) = given.or_else(|| repository().map(|root| made(&root))).or_else(installed) else {
-        warn("no naldrev library of version 0.1 was found. Install it (`make install` in the Naldrev repository, which needs the Rattle toolchain),");
-        warn("or set NALDREV_LIB_DIR to the folder that holds librefal.a or libnaldrev.a. Without it nothing can be linked.");
+        let (major, minor) = version();
+        warn(&format!(
+            "no naldrev library of version {major}.{minor} was found. Install it (`make install` in the Naldrev repository, which needs"
+        ));
+        warn("the Rattle toolchain), or set NALDREV_LIB_DIR to the folder that holds librefal.a or libnaldrev.a. Without it nothing can be linked.");
         println!("cargo:rustc-link-lib=static=naldrev");
         look_again(Path::new(&std::env::var_os("OUT_DIR").unwrap_or_default()));
         return;

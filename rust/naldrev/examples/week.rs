@@ -55,8 +55,8 @@ fn price(store: &mut Store, message: Field, tariff: &[(String, Prepared)]) -> Re
 /// Friday: what the variables stand for becomes the invoice line.
 fn invoice(store: &Store, rate: &str, candidate: &Candidate, out: &mut impl Write) -> Result<()> {
     let shown = |variable: &str| -> Result<String> {
-        let run = candidate.run(variable).ok_or("a variable of every sentence")?;
-        Ok(store.terms(run)?.to_string())
+        let terms = candidate.get(store, variable)?.ok_or("a variable of every sentence")?;
+        Ok(terms.to_string())
     };
     writeln!(out, "{}: {} kWh, {} to {}, {rate} rate", shown("s.point")?, shown("s.energy")?, shown("s.from")?, shown("s.to")?)?;
     Ok(())

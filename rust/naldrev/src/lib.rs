@@ -18,7 +18,7 @@
 //! // e.1 is empty first.
 //! let first = listing.get(0).unwrap();
 //! assert!(first.run("e.1").unwrap().is_empty());
-//! assert_eq!(store.terms(first.run("e.2").unwrap())?.to_string(), "'-'");
+//! assert_eq!(first.get(&store, "e.2")?.unwrap().to_string(), "'-'");
 //! # Ok::<(), naldrev::Error>(())
 //! ```
 //!

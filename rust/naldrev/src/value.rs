@@ -20,6 +20,9 @@ impl UnknownKind {
 
 /// A term with its contents. Equality here is by spelling: `kWh` and `KWH` are two values. The terms of a store are compared by
 /// [`crate::Store::equal`] and [`crate::Store::compare_runs`], which ignore the case of identifiers.
+///
+/// What is read from a text or a store is at most [`crate::MAX_DEPTH`] brackets deep. A value made by hand may be deeper: a store refuses it, and
+/// `clone` and `{:?}` of one many thousand deep need more stack than a thread has.
 #[derive(Clone, Debug, PartialEq, Eq, Hash)]
 pub enum Value {
     /// A character.

@@ -30,6 +30,11 @@ impl Candidate {
         self.variables.iter().position(named).map(|entry| self.run_of(self.runs[entry]))
     }
 
+    /// The terms of a variable by its name, as [`Candidate::run`] takes it; `None` if the candidate has no such variable.
+    pub fn get<'a>(&self, store: &'a Store, variable: &str) -> Result<Option<Terms<'a>>, Error> {
+        self.run(variable).map(|run| store.terms(run)).transpose()
+    }
+
     /// The variables, each with the terms that it stands for.
     pub fn terms<'a>(&'a self, store: &'a Store) -> Result<impl Iterator<Item = (&'a Variable, Terms<'a>)>, Error> {
         let terms = self.iter().map(|(_, run)| store.terms(run)).collect::<Result<Vec<_>, Error>>()?;

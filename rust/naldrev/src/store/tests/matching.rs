@@ -160,6 +160,8 @@ fn a_candidate_by_name_and_by_order() {
     let candidate = store.first(field, &pattern, &Bindings::NONE).unwrap().unwrap();
     assert_eq!(candidate.run("e.left"), Some(store.run(0, 1)));
     assert_eq!(candidate.run("s.RIGHT"), Some(store.run(2, 1)));
+    assert_eq!(candidate.get(&store, "s.RIGHT").unwrap().unwrap().run(), store.run(2, 1));
+    assert!(candidate.get(&store, "t.right").unwrap().is_none());
     for absent in ["s.left", "left", "e.", "E.left", "", "e.left.x"] {
         assert_eq!(candidate.run(absent), None, "{absent}");
     }
