@@ -9,8 +9,8 @@ use native.Mathlib.Decide.{ℕ-discrete, decLt}
 use native.Mathlib.Nat.{sub-zero}
 use native.Mathlib.Omega.{arith}
 use Rattle.term_spec.specs.ListLaws.{zeros-at}
-use Rattle.term_spec.specs.Value.{Value, isYes}
-use Rattle.term_spec.specs.ValueLaws.{is-yes}
+use Rattle.term_spec.specs.Value.{Value}
+use Rattle.term_spec.specs.ValueLaws.{is-yes, yes-of}
 use Rattle.value.specs.Equal.{equalAt}
 use Rattle.equality.specs.declared.Outcome.{Outcome}
 use Rattle.equality.specs.declared.Outcome.the-variants.{Different, Equal}
@@ -27,11 +27,6 @@ unfolding Tells
 tells-equal h e = rw e at h
 
 -- ---- forms ----
-
-yes-of : {P : Type 0} (d : Dec P) → isYes d ≡ true → P
-unfolding isYes
-yes-of (yes h) e = h
-yes-of (no h) e = let z : _≡_ {A = ℕ} 0 1 = cc in absurd (omega arith)
 
 module _ (names w : List ℕ) (used i j : ℕ) where
   pub forms-equal : formAt names w used i ≡ formAt names w used j → true ≡ equalAt names w used i j

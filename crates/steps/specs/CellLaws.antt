@@ -12,7 +12,7 @@ use native.Mathlib.Decide.{ℕ-discrete}
 use Rattle.term_spec.specs.Words.{decode, recordAt}
 use Rattle.term_spec.specs.Term.{Term, Run, termLayout, part, contentsRun}
 use Rattle.term_spec.specs.Value.{Value, char, Single, row, valueK, valueOf, canon, forms, contents, same?, sames?, takes, takes?, decided, isYes}
-use Rattle.term_spec.specs.ValueLaws.{canon-bracketed, contents-bracketed, takes-canon, is-yes}
+use Rattle.term_spec.specs.ValueLaws.{canon-bracketed, contents-bracketed, takes-canon, is-yes, yes-of}
 use Rattle.match_spec.specs.Element.{Level}
 use Rattle.match_spec.specs.Walk.{cellsOf, runs, strip}
 use Rattle.match_spec.specs.WalkLaws.{strip-at, strip-sound}
@@ -163,11 +163,6 @@ module _ {R : Type 0} (x c : Level) (t : Turn R) where
   unfolding turnEnter
   begins-long h = rw (strip-long x c h) refl
 
-yes-so : {P : Type 0} (d : Dec P) → isYes d ≡ true → P
-unfolding isYes
-yes-so (yes h) e = h
-yes-so (no h) e = absurd (let z : _≡_ {A = ℕ} 0 1 = cc in omega arith)
-
 no-so : {P : Type 0} (d : Dec P) → isYes d ≡ false → P → ⊥
 no-so d e h = let z : _≡_ {A = ℕ} 0 1 = cc (is-yes d h) in omega arith
 
@@ -184,7 +179,7 @@ module _ (names w : List ℕ) (used : ℕ) (v r : Run) (within : v .start + v .l
   same-is = same
 
   pub run-begins : b ≡ true → cellsOf names (decode termLayout used w) v ≡ take (length (cellsOf names (decode termLayout used w) v)) (cellsOf names (decode termLayout used w) r)
-  run-begins d = yes-so _ (sym same-is ∙ d) ∙ front-is
+  run-begins d = yes-of _ (sym same-is ∙ d) ∙ front-is
 
   pub run-differs : b ≡ false → cellsOf names (decode termLayout used w) v ≡ take (length (cellsOf names (decode termLayout used w) v)) (cellsOf names (decode termLayout used w) r) → ⊥
   run-differs d e = no-so _ (sym same-is ∙ d) (e ∙ sym front-is)

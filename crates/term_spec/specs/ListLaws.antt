@@ -6,6 +6,7 @@ use mathlib.Core.Option.{some}
 use lib.ListN.{length, getD, getElem?, take, drop, replicate, length-drop}
 use lib.Seq.{drop-cons, take-append-le, drop-append-le, take-take, take-nil, length-take-le, take-append-add, drop-append-add}
 use Prim.Native.Nat.{ℕ, suc, zero, _+_, _-_, _≤_, _<_}
+use native.Mathlib.Nat.{add-zero}
 use native.Mathlib.Numerals.{add-one}
 use native.Mathlib.Omega.{arith}
 
@@ -14,6 +15,16 @@ pub zeros-at : (n i : ℕ) → getD {A = ℕ} (replicate n 0) i 0 ≡ 0
 zeros-at zero i = refl
 zeros-at (suc n) zero = refl
 zeros-at (suc n) (suc i) = zeros-at n i
+
+-- n numbers, from a on, and what a function gives for one of them.
+abbrev pub numbersFrom : ℕ → ℕ → List ℕ
+numbersFrom a zero = []
+numbersFrom a (suc n) = a ∷ numbersFrom (suc a) n
+
+pub map-numbers : (f : ℕ → ℕ) (a n k : ℕ) → k < n → getD (map f (numbersFrom a n)) k 0 ≡ f (a + k)
+map-numbers f a zero k h = absurd (omega arith)
+map-numbers f a (suc n) zero h = ap f (sym (add-zero a))
+map-numbers f a (suc n) (suc k) h = map-numbers f (suc a) n k (omega arith) ∙ ap f (omega arith)
 
 pub map-take : {A B : Type 0} (f : A → B) (n : ℕ) (l : List A) → map f (take n l) ≡ take n (map f l)
 map-take f zero l = refl

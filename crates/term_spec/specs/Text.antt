@@ -47,6 +47,7 @@ textLimit = 255
 unfoldable pub textRule : (List ℕ → Bool) → List ℕ → ℕ → ℕ → Bool
 textRule spelled names o n = leb 1 n && leb n textLimit && leb (o + n) (length names) && spelled (textAt names o n)
 
--- An ASCII letter lowered, `A` (65) to `a` (97): the one place that knows how (02: 2.4).
+-- An ASCII capital lowered, `A` (65) to `a` (97): the one place that knows how. The code reads a table (02: 2.4); text/LowerTable proves that it is
+-- this rule.
 unfoldable pub lower : ℕ → ℕ
 lower c = elim (leb 65 c && leb c 90) [ true ↦ c + 32 | false ↦ c ]

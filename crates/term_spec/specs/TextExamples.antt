@@ -1,15 +1,11 @@
 -- The tests of a byte, by computation over all 256 bytes: each list of answers is counted out range by range.
 use mathlib.Core.Path.{_≡_, refl}
-use mathlib.Core.List.{List, [], _∷_, _++_, map}
+use mathlib.Core.List.{List, _++_, map}
 use mathlib.Core.Bool.{Bool, true, false}
 use lib.ListN.{length, replicate}
-use Prim.Native.Nat.{ℕ, suc, zero}
+use Prim.Native.Nat.{ℕ}
 use Rattle.term_spec.specs.Text.{isLetter, isDigit, isNameByte, lower}
-
--- n numbers, from a on.
-abbrev from : ℕ → ℕ → List ℕ
-from a zero = []
-from a (suc n) = a ∷ from (suc a) n
+use Rattle.term_spec.specs.ListLaws.{numbersFrom as from}
 
 abbrev bytes : List ℕ
 bytes = from 0 256

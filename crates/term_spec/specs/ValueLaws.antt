@@ -101,6 +101,11 @@ unfolding isYes
 is-no (yes p) h = absurd (h p)
 is-no (no n) h = refl
 
+pub yes-of : {P : Type 0} (d : Dec P) → isYes d ≡ true → P
+unfolding isYes
+yes-of (yes p) e = p
+yes-of (no n) e = let z : _≡_ {A = ℕ} 0 1 = cc in absurd (omega arith)
+
 pub alike : {P Q : Type 0} (d : Dec P) (e : Dec Q) → (P → Q) → (Q → P) → isYes d ≡ isYes e
 unfolding isYes
 alike (yes p) e f g = sym (is-yes e (f p))

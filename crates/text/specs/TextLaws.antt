@@ -11,10 +11,10 @@ use native.Mathlib.Nat.{add-zero, sub-zero}
 use native.Mathlib.Numerals.{add-one}
 use native.Mathlib.Omega.{arith}
 use Rattle.term_spec.specs.BoolLaws.{both-of}
-use Rattle.term_spec.specs.Text.{isLetter, every, identifierText, numberText, variableText, textAt, textLimit, textRule, lower}
+use Rattle.term_spec.specs.Text.{isLetter, every, identifierText, numberText, variableText, textAt, textLimit, textRule}
 use Rattle.term_spec.specs.Term.{identifierKind, numberKind}
 use Rattle.term_spec.specs.Value.{ident, num, canon}
-use Rattle.term_spec.specs.ValueLaws.{is-yes, is-no, alike}
+use Rattle.term_spec.specs.ValueLaws.{is-yes, is-no, yes-of, alike}
 use Rattle.term_spec.specs.ListLaws.{part-length}
 use Rattle.text.specs.Texts.{byteTest, spelled, spelling, folded, textsEqual, identifiersEqual, numbersEqual}
 
@@ -93,22 +93,6 @@ text-within test names o n h =
     let front = both-of (leb 1 n && leb n textLimit && leb (o + n) (length names)) (test (textAt names o n)) h .0 in
     leb→le _ _ (both-of (leb 1 n && leb n textLimit) (leb (o + n) (length names)) front .1)
 
--- ---- a byte as it is compared ----
-
-lower-by : (c : ℕ) (capital : Bool) → leb 65 c && leb c 90 ≡ capital → lower c ≡ elim capital as (λ x. ℕ) [ true ↦ c + 32 | false ↦ c ]
-unfolding lower
-lower-by c capital e = ap (λ b. elim b as (λ x. ℕ) [ true ↦ c + 32 | false ↦ c ]) e
-
--- Before `A`, after `Z` and between them.
-pub lower-small : (c : ℕ) → c < 65 → lower c ≡ c
-lower-small c h = lower-by c false (simp (lt-leb 65 c h))
-
-pub lower-large : (c : ℕ) → 90 < c → lower c ≡ c
-lower-large c h = lower-by c false (simp (le-leb 65 c (omega arith), lt-leb c 90 h))
-
-pub lower-capital : (c : ℕ) → 65 ≤ c → c ≤ 90 → lower c ≡ c + 32
-lower-capital c h k = lower-by c true (simp (le-leb 65 c h, le-leb c 90 k))
-
 -- ---- when two texts are the same ----
 
 -- What is left of two texts, where the next bytes compare the same, where they do not, and at the end.
@@ -149,6 +133,11 @@ unfolded : (x : List ℕ) → map (folded false) x ≡ x
 unfolding folded
 unfolded [] = refl
 unfolded (c ∷ x) = ap (c ∷_) (unfolded x)
+
+-- Texts that are the same are the same with folding, too.
+pub same-folded : (x y : List ℕ) → textsEqual false x y ≡ true → textsEqual true x y ≡ true
+unfolding textsEqual
+same-folded x y e = is-yes _ (ap (map (folded true)) (sym (unfolded x) ∙ yes-of _ e ∙ unfolded y))
 
 pub numbers : (x y : List ℕ) → numbersEqual x y ≡ textsEqual false x y
 unfolding numbersEqual textsEqual canon

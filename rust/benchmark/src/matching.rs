@@ -143,6 +143,12 @@ pub fn dash_in_eight_runs(report: &mut Report) -> Result<(), String> {
     Case { sides, on, pattern, candidates: 20 }.time(report, "`e.1 '-' e.2`, 1,000 terms in eight runs")
 }
 
+/// Identifiers that differ in their last letter, every 50th the one that the pattern has, there in capitals.
+pub fn identifiers(report: &mut Report) -> Result<(), String> {
+    let message: String = (1..=1000).map(|i| if i % 50 == 0 { "Zone-b " } else { "Zone-a " }).collect();
+    Case::new(&message, "e.1 ZONE-B e.2", 20).time(report, "`e.1 ZONE-B e.2`, 1,000 identifiers")
+}
+
 pub fn five_open(report: &mut Report) -> Result<(), String> {
     let message = format!("'{}'", "abcdefghij".repeat(6));
     let pattern = "e.1 'a' e.2 'b' e.3 'c' e.4 'd' e.5";

@@ -1,19 +1,13 @@
--- `lower` is the specification's: each return is the law of the bytes that the tests before it leave.
-use native.Mathlib.Omega.{arith}
-use mathlib.Core.Path.{sym}
-use Rattle.text.specs.TextLaws.{lower-small, lower-large, lower-capital}
+-- `lower` is the specification's: the lent chart is the list of lowered bytes, and each entry of that list is the rule's.
+use mathlib.Core.Path.{ap, _∙_}
+use lib.ListN.{getD}
 use borrow.Author.Needs.{needs}
+use Rattle.text.specs.LowerTable.{entry-lowered}
 use Rattle.text.proofs.lower.Statement.{statement}
 use Rattle.text.proofs.lower.Tie as tie
 
 returns : tie.Need-returns
-returns c = sym (lower-small _ (omega arith))
-
-returns-2 : tie.Need-returns-2
-returns-2 c = sym (lower-large _ (omega arith))
-
-returns-3 : tie.Need-returns-3
-returns-3 c = sym (lower-capital _ (omega arith) (omega arith))
+returns c = let byte = c .before .args .c in ap (λ chart. getD chart byte 0) (c .before .pre) ∙ entry-lowered byte (search needs)
 
 pub lower-spec : {M : Type 1} → statement M
-lower-spec = tie.close (tie.spec returns returns-2 (λ c. search needs) returns-3)
+lower-spec = tie.close (tie.spec (λ c. search needs) returns)
