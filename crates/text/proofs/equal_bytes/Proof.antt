@@ -1,12 +1,11 @@
 -- `equal_bytes` is the comparison of two texts byte by byte. The loop's invariant: the answer on the whole texts is the answer on what is left of them.
 use native.Mathlib.Omega.{arith}
-use mathlib.Core.Path.{_≡_, refl, sym, ap₂, _∙_}
-use mathlib.Core.Bool.{true, false}
+use mathlib.Core.Path.{_≡_, sym, ap₂, _∙_}
+use mathlib.Core.Bool.{false}
 use Prim.Native.Nat.{_≤_, _-_}
 use Rattle.term_spec.specs.Text.{textAt}
 use Rattle.text.specs.Texts.{folded, textsEqual}
 use Rattle.text.specs.TextLaws.{left, left-all, same-more, same-stop, same-none}
-use borrow.Author.Needs.{needs}
 use Rattle.text.proofs.equal_bytes.Statement.{statement}
 use Rattle.text.proofs.equal_bytes.Tie as tie
 

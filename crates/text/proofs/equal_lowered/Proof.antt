@@ -1,14 +1,13 @@
--- `equal_lowered` is the comparison of two texts with their bytes lowered. The loop's invariant: the chart is the list of lowered bytes, and the answer on
--- the whole texts is the answer on what is left of them.
+-- `equal_lowered` is the comparison of two texts with their bytes lowered. The loop's invariant: the answer on the whole texts is the answer on what is
+-- left of them. The chart that is lent to `lower` is the constant, which is the list of lowered bytes.
 use native.Mathlib.Omega.{arith}
 use mathlib.Core.Path.{_≡_, refl, sym, ap₂, _∙_}
-use mathlib.Core.Bool.{true, false}
+use mathlib.Core.Bool.{true}
 use Prim.Native.Nat.{_≤_, _-_}
 use Rattle.term_spec.specs.Text.{textAt}
 use Rattle.text.specs.Texts.{folded, textsEqual}
 use Rattle.text.specs.TextLaws.{left, left-all, same-more, same-stop, same-none}
 use Rattle.text.specs.LowerTable.{loweredBytes}
-use borrow.Author.Needs.{needs}
 use Rattle.text.proofs.equal_lowered.Statement.{statement}
 use Rattle.text.proofs.equal_lowered.Tie as tie
 
