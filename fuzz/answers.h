@@ -19,7 +19,7 @@ static bool equal_terms(size_t i, size_t j)
     if (t[0] == NALDREV_IDENTIFIER)
         return same_text(t[1], t[2], u[1], u[2]);
     if (t[0] == NALDREV_NUMBER)
-        return t[2] == u[2] && memcmp(draft.names + t[1], draft.names + u[1], t[2]) == 0;
+        return same_number(t[1], t[2], u[1], u[2]);
     if (t[0] == NALDREV_BRACKET)
         return equal_runs(t[1], t[2], u[1], u[2]);
     return memcmp(t, u, NALDREV_TERM_WIDTH * sizeof *t) == 0;

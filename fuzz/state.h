@@ -78,10 +78,10 @@ static void put(uint32_t *record, uint32_t kind, size_t a, size_t b, size_t c)
     record[3] = (uint32_t)c;
 }
 
-/* Names of letters, digits, - and _ over few letters, so that texts are often equal. */
+/* Names of letters, digits, - and _ over few letters and many zeros, so that texts are often equal. */
 static void make_names(size_t len)
 {
-    static const char letters[] = "aAbBx1207-_z";
+    static const char letters[] = "aAbBx120007-_z";
     draft.names_len = len;
     for (size_t i = 0; i < len; i++)
         draft.names[i] = (uint8_t)letters[below(sizeof letters - 1)];

@@ -6,6 +6,16 @@
 
 static bool same_text(size_t o, size_t n, size_t p, size_t m) { return same_name(draft.names, o, n, p, m); }
 
+/* Numbers are the same without leading zeros; a last digit counts. */
+static bool same_number(size_t o, size_t n, size_t p, size_t m)
+{
+    for (; n > 1 && draft.names[o] == '0'; n--)
+        o++;
+    for (; m > 1 && draft.names[p] == '0'; m--)
+        p++;
+    return n == m && memcmp(draft.names + o, draft.names + p, n) == 0;
+}
+
 static uint32_t reach_of(size_t node) { return draft.nodes[node * NALDREV_NODE_WIDTH + 5]; }
 
 static bool make_cons(size_t i)

@@ -33,7 +33,7 @@ static bool literal_fits(const uint32_t *p, const uint32_t *t)
     if (p[0] == NALDREV_IDENTIFIER)
         return same_text(p[1], p[2], t[1], t[2]);
     if (p[0] == NALDREV_NUMBER)
-        return p[2] == t[2] && memcmp(draft.names + p[1], draft.names + t[1], p[2]) == 0;
+        return same_number(p[1], p[2], t[1], t[2]);
     return p[1] == t[1];
 }
 

@@ -37,11 +37,12 @@ extern "C" {
 
 /* ---- version ---- */
 
-/* Of these headers and of the library that they belong to. As long as the first number is 0, a change of the second may change the calls. */
+/* Of these headers and of the library that they belong to. As long as the first number is 0, a change of the second may change the calls or
+   what they answer. */
 #define NALDREV_VERSION_MAJOR 0
-#define NALDREV_VERSION_MINOR 1
+#define NALDREV_VERSION_MINOR 2
 #define NALDREV_VERSION_PATCH 0
-#define NALDREV_VERSION "0.1.0"
+#define NALDREV_VERSION "0.2.0"
 #define NALDREV_VERSION_NUMBER (NALDREV_VERSION_MAJOR * 1000000 + NALDREV_VERSION_MINOR * 1000 + NALDREV_VERSION_PATCH)
 
 /* ---- stack ---- */
@@ -107,8 +108,8 @@ static inline const char *naldrev_text(size_t number)
 
 /* Terms; 0 to 2 are kinds of pattern records too. */
 #define NALDREV_CHAR 0       /* a: Unicode scalar value */
-#define NALDREV_IDENTIFIER 1 /* a, b: offset and length in the names */
-#define NALDREV_NUMBER 2     /* a, b: offset and length in the names */
+#define NALDREV_IDENTIFIER 1 /* a, b: offset and length in the names; compared with ASCII case ignored */
+#define NALDREV_NUMBER 2     /* a, b: offset and length in the names; compared without leading zeros, 007 as 7 */
 #define NALDREV_BRACKET 3    /* a, b: start and length of the contents, all below; c: depth */
 #define NALDREV_UNKNOWN 4    /* a: 0 symbol, 1 term, 2 expression; b: level; c: index */
 

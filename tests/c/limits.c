@@ -271,6 +271,27 @@ static void try_kinds(void)
     EXPECT(checked() == NALDREV_BAD_TERM);
 }
 
+/* 7 fits 007 and is shown as received, 77 does not fit it; a fits A. */
+static void try_comparing(void)
+{
+    const uint32_t number[] = {0, 1}, letter[] = {1, 1};
+    begin();
+    names[0] = names[1] = '0';
+    names[LETTERS] = 'A';
+    add_term(NALDREV_NUMBER, 0, 3, 0);
+    add_term(NALDREV_IDENTIFIER, LETTERS, 1, 0);
+    EXPECT(field_of(number, 1) == NALDREV_OK);
+    set_record(0, NALDREV_NUMBER, 2, 1);
+    EXPECT(listed(made, 1) == NALDREV_OK);
+    set_record(0, NALDREV_NUMBER, 2, 2);
+    EXPECT(listed(made, 1) == NALDREV_NO_MATCH);
+    set_record(0, NALDREV_S_VARIABLE, 0, 1);
+    EXPECT(listed(made, 1) == NALDREV_OK && words[0] == 0 && terms[1] == 0 && terms[2] == 3);
+    EXPECT(field_of(letter, 1) == NALDREV_OK);
+    set_record(0, NALDREV_IDENTIFIER, LETTERS + 1, 1);
+    EXPECT(listed(made, 1) == NALDREV_OK);
+}
+
 int main(void)
 {
     try_store_limits();
@@ -281,5 +302,6 @@ int main(void)
     try_numbers();
     try_widths();
     try_kinds();
+    try_comparing();
     return failures > 0;
 }

@@ -1,12 +1,12 @@
 -- Demand 3 on one list of calls: its premises are met and what it says is seen. Two fields that hold `--`, one a run and the other a rope,
--- are listed under `e.1 '-' e.2`; the second listing settles a copy.
+-- are listed under `e.1 '-' e.2`; the second listing settles a copy. Two fields that hold the numbers 7 and 007 are listed under `t.1`.
 use mathlib.Core.Path.{_≡_, refl, ap}
 use mathlib.Core.List.{List, [], _∷_, _++_, List·Memᴰ, List·Memᴰ·head, List·Memᴰ·tail}
 use lib.ListN.{take, getElem?, replicate}
 use Prim.Native.Nat.{ℕ}
 use native.Mathlib.Decide.{ℕ-discrete, decLe, decLt}
 use Rattle.term_spec.specs.Words.{decode, encode, count, whole, records, write}
-use Rattle.term_spec.specs.Text.{isLetter, isDigit, isNameByte, every, identifierText, numberText, variableText, textRule, lower}
+use Rattle.term_spec.specs.Text.{isLetter, isDigit, isNameByte, every, identifierText, numberText, variableText, textRule, lower, stripped}
 use Rattle.term_spec.specs.Table.{table}
 use Rattle.term_spec.specs.Term.{termOf, runOf, runRule, runsRule, isScalar, depthK, deepest, bracketRule, symbolRule, termRuleK, termRule, termsRule}
 use Rattle.term_spec.specs.Value.{toList, fromList, bracketed, contents, valueK, valueOf, values, canon, canons, heads?, list?, same?, sames?, takesTable}
@@ -27,7 +27,7 @@ use Rattle.calls_spec.specs.Store.{terms, nodes, spelled, shows, fieldTe
 use Rattle.calls_spec.specs.Step.{answerNumber, effectOf, slotsOf, ask, evenRequest, askRequest, flatAnswer, flatWork, matchEvents, matchProgress}
 use Rattle.calls_spec.specs.Step.{matchAnswer, concat, fillSlots, given, fits, changed, deed, input, room, accept, refuse, decide, step}
 use Rattle.calls_spec.specs.Demand3.{trace, final, sameField?, modelTerms, enteredBy, entry, enterBy, model, readSlots, listedRuns, candidatesOf}
-use Rattle.term_spec.specs.Value.{char, forms}
+use Rattle.term_spec.specs.Value.{Value, char, num, forms}
 use Rattle.view_spec.specs.Node.{Field}
 use Rattle.match_spec.specs.Element.{Env}
 use Rattle.match_spec.specs.Answer.{allOfThem}
@@ -38,10 +38,11 @@ use Rattle.calls_spec.specs.Demand3Laws.{demand3}
 
 abbrev store : Store
 store = record {
-  names = 49 ∷ 50 ∷ [];
+  names = 49 ∷ 50 ∷ 48 ∷ 48 ∷ 55 ∷ [];
   termWords = (0 ∷ 45 ∷ 0 ∷ 0 ∷ []) ++ (0 ∷ 45 ∷ 0 ∷ 0 ∷ [])
+      ++ (2 ∷ 4 ∷ 1 ∷ 0 ∷ []) ++ (2 ∷ 2 ∷ 3 ∷ 0 ∷ [])
       ++ replicate 16 0;
-  termsUsed = 2;
+  termsUsed = 4;
   nodeWords = replicate 60 0;
   nodesUsed = 1;
 }
@@ -49,10 +50,14 @@ store = record {
 abbrev request : Field → List ℕ → Request
 request f slots = record { field = f; pattern = (7 ∷ 0 ∷ 1 ∷ 0 ∷ []) ++ (0 ∷ 45 ∷ 0 ∷ 0 ∷ []) ++ (7 ∷ 1 ∷ 1 ∷ 0 ∷ []); bindings = []; slots = slots }
 
+-- t.1, with one slot.
+abbrev oneTerm : Field → Request
+oneTerm f = record { field = f; pattern = 6 ∷ 0 ∷ 1 ∷ 0 ∷ []; bindings = []; slots = replicate 2 0 }
+
 abbrev field : ℕ → ℕ → Field
 field n l = record { node = n; len = l }
 
--- The run `--`; one `-`; the rope of two of these; its rest and a range of it; both listings, the second with one slot only.
+-- The run `--`; one `-`; the rope of two of these; its rest and a range of it; both listings, the second with one slot only; 7 and 007, each listed.
 abbrev calls : List Call
 calls =
     callFromRuns (0 ∷ 1 ∷ 1 ∷ 1 ∷ [])
@@ -62,6 +67,10 @@ calls =
     ∷ callRange (field 3 2) 0 1
     ∷ callMatch allOfThem (request (field 1 2) (replicate 8 0))
     ∷ callMatch allOfThem (request (field 3 2) (replicate 4 0))
+    ∷ callFromRuns (2 ∷ 1 ∷ [])
+    ∷ callFromRuns (3 ∷ 1 ∷ [])
+    ∷ callMatch allOfThem (oneTerm (field 4 1))
+    ∷ callMatch allOfThem (oneTerm (field 5 1))
     ∷ []
 
 -- The call after the first n.
@@ -74,6 +83,19 @@ listsRun = moment 5 (callMatch allOfThem (request (field 1 2) (replicate 8 0)))
 abbrev listsRope : Moment
 listsRope = moment 6 (callMatch allOfThem (request (field 3 2) (replicate 4 0)))
 
+abbrev listsSeven : Moment
+listsSeven = moment 9 (callMatch allOfThem (oneTerm (field 4 1)))
+
+abbrev listsZeros : Moment
+listsZeros = moment 10 (callMatch allOfThem (oneTerm (field 5 1)))
+
+-- The terms 7 and 007, as spelled.
+abbrev seven : List Value
+seven = num (55 ∷ []) ∷ []
+
+abbrev zeros : List Value
+zeros = num (48 ∷ 48 ∷ 55 ∷ []) ∷ []
+
 -- e.1 empty and e.2 `-`; then the other way round, for which the second listing has no slot.
 abbrev firstOne : Env
 firstOne = [] ∷ (char 45 ∷ []) ∷ []
@@ -81,19 +103,24 @@ firstOne = [] ∷ (char 45 ∷ []) ∷ []
 abbrev secondOne : Env
 secondOne = (char 45 ∷ []) ∷ [] ∷ []
 
--- By computation: the list starts as it should; both listings are within the rules; their candidates; the model's entries, newest first.
+-- By computation: the list starts as it should; the listings are within the rules; their candidates; the model's entries, newest first. Candidates and
+-- entries have the spelling received.
 record Seen : Type 0 where
   starts : Start store
   run-within : Listing (request (field 1 2) (replicate 8 0)) listsRun
   rope-within : Listing (request (field 3 2) (replicate 4 0)) listsRope
   run-lists : candidatesOf listsRun ≡ (firstOne ∷ secondOne ∷ [])
   rope-lists : candidatesOf listsRope ≡ (firstOne ∷ [])
+  seven-within : Listing (oneTerm (field 4 1)) listsSeven
+  zeros-within : Listing (oneTerm (field 5 1)) listsZeros
+  seven-lists : candidatesOf listsSeven ≡ ((seven ∷ []) ∷ [])
+  zeros-lists : candidatesOf listsZeros ≡ ((zeros ∷ []) ∷ [])
   modelled : model [] (trace store calls)
-      ≡ ((field 3 1, char 45 ∷ []) ∷ (field 2 1, char 45 ∷ []) ∷ (field 3 2, char 45 ∷ char 45 ∷ []) ∷ (field 2 1, char 45 ∷ []) ∷
+      ≡ ((field 5 1, zeros) ∷ (field 4 1, seven) ∷ (field 3 1, char 45 ∷ []) ∷ (field 2 1, char 45 ∷ []) ∷ (field 3 2, char 45 ∷ char 45 ∷ []) ∷ (field 2 1, char 45 ∷ []) ∷
       (field 1 2, char 45 ∷ char 45 ∷ []) ∷ [])
 
 seen : Seen
-unfolding decode encode count whole records write isLetter isDigit isNameByte every identifierText numberText variableText textRule lower table termOf runOf
+unfolding decode encode count whole records write isLetter isDigit isNameByte every identifierText numberText variableText textRule lower stripped table termOf runOf
     runRule runsRule isScalar depthK deepest bracketRule symbolRule termRuleK termRule termsRule toList fromList bracketed contents valueK valueOf values
     canon canons heads? list? same? sames? takesTable unknownColumn column takesRow row takes decided takes? nodeOf nilRule consRule concatRule nodeRuleK
     nodeRule eachNode nodesRule fieldRule meaningK meaningOf ifDec fuseHead fuseOnto fuse chainHead chain total parts fromRuns unclampK unclampOf unclamp
@@ -111,10 +138,14 @@ seen = record {
   rope-within = record { called = refl; within = refl };
   run-lists = refl;
   rope-lists = refl;
+  seven-within = record { called = refl; within = refl };
+  zeros-within = record { called = refl; within = refl };
+  seven-lists = refl;
+  zeros-lists = refl;
   modelled = refl;
 }
 
--- The two listings are calls of the list.
+-- The listings are calls of the list.
 run-there : List·Memᴰ listsRun (trace store calls)
 unfolding trace final
 run-there = List·Memᴰ·tail (List·Memᴰ·tail (List·Memᴰ·tail (List·Memᴰ·tail (List·Memᴰ·tail (List·Memᴰ·head refl)))))
@@ -122,6 +153,18 @@ run-there = List·Memᴰ·tail (List·Memᴰ·tail (List·Memᴰ·tail (List·Me
 rope-there : List·Memᴰ listsRope (trace store calls)
 unfolding trace final
 rope-there = List·Memᴰ·tail (List·Memᴰ·tail (List·Memᴰ·tail (List·Memᴰ·tail (List·Memᴰ·tail (List·Memᴰ·tail (List·Memᴰ·head refl))))))
+
+seven-there : List·Memᴰ listsSeven (trace store calls)
+unfolding trace final
+seven-there =
+    List·Memᴰ·tail (List·Memᴰ·tail (List·Memᴰ·tail (List·Memᴰ·tail (List·Memᴰ·tail (List·Memᴰ·tail (List·Memᴰ·tail
+    (List·Memᴰ·tail (List·Memᴰ·tail (List·Memᴰ·head refl)))))))))
+
+zeros-there : List·Memᴰ listsZeros (trace store calls)
+unfolding trace final
+zeros-there =
+    List·Memᴰ·tail (List·Memᴰ·tail (List·Memᴰ·tail (List·Memᴰ·tail (List·Memᴰ·tail (List·Memᴰ·tail (List·Memᴰ·tail
+    (List·Memᴰ·tail (List·Memᴰ·tail (List·Memᴰ·tail (List·Memᴰ·head refl))))))))))
 
 holds : Demand3 store calls
 holds = demand3 store calls (seen .starts)
@@ -133,3 +176,12 @@ fields-agree =
     (replicate 4 0)
     run-there rope-there (seen .run-within) (seen .rope-within) 0 0 firstOne firstOne
     (ap (λ l. getElem? l 0) (seen .run-lists)) (ap (λ l. getElem? l 0) (seen .rope-lists))) .0 refl .0
+
+-- The model goes by spelling, listings by equality: the entries of 7 and 007 differ (`modelled`), and their candidates are equal, so the fields hold
+-- equal terms.
+numbers-agree : forms (fieldTerms (final store calls) (field 4 1)) ≡ forms (fieldTerms (final store calls) (field 5 1))
+unfolding canon stripped
+numbers-agree =
+    (holds .agree listsSeven listsZeros (field 4 1) (field 5 1) (6 ∷ 0 ∷ 1 ∷ 0 ∷ []) [] (replicate 2 0) (replicate 2 0)
+    seven-there zeros-there (seen .seven-within) (seen .zeros-within) 0 0 (seven ∷ []) (zeros ∷ [])
+    (ap (λ l. getElem? l 0) (seen .seven-lists)) (ap (λ l. getElem? l 0) (seen .zeros-lists))) .0 refl .0

@@ -1,12 +1,12 @@
--- 01's starred trial messages as one table, and one computed test over the definitions: each row is run on lent words, from_runs and then
--- the listing, with names, identifiers and numbers by their text.
+-- 01's starred trial messages as one table, that of 007 as 02 amends it, and one computed test over the definitions: each row is run on lent
+-- words, from_runs and then the listing, with the texts of names, identifiers and numbers.
 use mathlib.Core.Path.{_≡_, refl}
 use mathlib.Core.List.{List, [], _∷_, _++_, map}
 use lib.ListN.{replicate}
 use Prim.Native.Nat.{ℕ}
 use native.Mathlib.Decide.{ℕ-discrete, decLe, decLt}
 use Rattle.term_spec.specs.Words.{decode, encode, count, whole, records, write}
-use Rattle.term_spec.specs.Text.{isLetter, isDigit, isNameByte, every, identifierText, numberText, variableText, textRule, lower}
+use Rattle.term_spec.specs.Text.{isLetter, isDigit, isNameByte, every, identifierText, numberText, variableText, textRule, lower, stripped}
 use Rattle.term_spec.specs.Table.{table}
 use Rattle.term_spec.specs.Term.{termOf, runOf, runRule, runsRule, isScalar, depthK, deepest, bracketRule, symbolRule, termRuleK, termRule, termsRule}
 use Rattle.term_spec.specs.Value.{toList, fromList, bracketed, contents, valueK, valueOf, values, canon, canons, heads?, list?, same?, sames?, takesTable}
@@ -27,7 +27,7 @@ use Rattle.calls_spec.specs.Store.{terms, nodes, spelled, shows, fieldTe
 use Rattle.calls_spec.specs.Step.{answerNumber, effectOf, slotsOf, ask, evenRequest, askRequest, flatAnswer, flatWork, matchEvents, matchProgress}
 use Rattle.calls_spec.specs.Step.{matchAnswer, concat, fillSlots, given, fits, changed, deed, input, room, accept, refuse, decide, step}
 use Rattle.calls_spec.specs.Demand3.{trace, final, sameField?, modelTerms, enteredBy, entry, enterBy, model, readSlots, listedRuns, candidatesOf}
-use Rattle.term_spec.specs.Value.{char, unknown}
+use Rattle.term_spec.specs.Value.{char, num, unknown}
 use Rattle.view_spec.specs.Node.{Field, emptyField}
 use Rattle.match_spec.specs.Element.{Env}
 use Rattle.match_spec.specs.Answer.{allOfThem}
@@ -54,9 +54,10 @@ rowTerms =
     ++ (4 ∷ 1 ∷ 0 ∷ 1 ∷ [])  -- 10: a term unknown
     ++ (4 ∷ 2 ∷ 0 ∷ 1 ∷ [])  -- 11: an expression unknown
     ++ (2 ∷ 5 ∷ 3 ∷ 0 ∷ [])  -- 12: the number 007
+    ++ (2 ∷ 7 ∷ 1 ∷ 0 ∷ [])  -- 13: the number 7
 
 abbrev pub rowStore : Store
-rowStore = record { names = rowNames; termWords = rowTerms; termsUsed = 13; nodeWords = replicate 24 0; nodesUsed = 1 }
+rowStore = record { names = rowNames; termWords = rowTerms; termsUsed = 14; nodeWords = replicate 24 0; nodesUsed = 1 }
 
 -- Pattern records.
 abbrev pub symbolVar : ℕ → List ℕ
@@ -105,8 +106,10 @@ trials =
     -- t.1 and e.1 on an expression unknown
     ∷ trial (termVar 0) (11 ∷ 1 ∷ []) 10 []
     ∷ trial (exprVar 0) (11 ∷ 1 ∷ []) 0 (((unknown 2 0 1 ∷ []) ∷ []) ∷ [])
-    -- the number 7 on 007
-    ∷ trial (2 ∷ 7 ∷ 1 ∷ 0 ∷ []) (12 ∷ 1 ∷ []) 10 []
+    -- the number 7 on 007: 10 by document 01, a match since numbers compare as numbers (02: 2.9)
+    ∷ trial (2 ∷ 7 ∷ 1 ∷ 0 ∷ []) (12 ∷ 1 ∷ []) 0 ([] ∷ [])
+    -- s.1 s.1 on 007 7: the first occurrence gives the entry, with the spelling received
+    ∷ trial (symbolVar 0 ++ symbolVar 0) (12 ∷ 2 ∷ []) 0 (((num (48 ∷ 48 ∷ 55 ∷ []) ∷ []) ∷ []) ∷ [])
     -- s.A e.A on ab
     ∷ trial (symbolVar 4 ++ exprVar 4) (2 ∷ 2 ∷ []) 0 (((char 97 ∷ []) ∷ (char 98 ∷ []) ∷ []) ∷ [])
     -- 'a' <F> on b, and on a
@@ -138,7 +141,7 @@ abbrev pub expected : Trial → Outcome
 expected r = (r .number, r .candidates)
 
 pub starred-rows : map run trials ≡ map expected trials
-unfolding decode encode count whole records write isLetter isDigit isNameByte every identifierText numberText variableText textRule lower table termOf runOf
+unfolding decode encode count whole records write isLetter isDigit isNameByte every identifierText numberText variableText textRule lower stripped table termOf runOf
     runRule runsRule isScalar depthK deepest bracketRule symbolRule termRuleK termRule termsRule toList fromList bracketed contents valueK valueOf values
     canon canons heads? list? same? sames? takesTable unknownColumn column takesRow row takes decided takes? nodeOf nilRule consRule concatRule nodeRuleK
     nodeRule eachNode nodesRule fieldRule meaningK meaningOf ifDec fuseHead fuseOnto fuse chainHead chain total parts fromRuns unclampK unclampOf unclamp

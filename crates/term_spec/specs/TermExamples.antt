@@ -6,7 +6,7 @@ use lib.ListN.{length, getD, replicate}
 use Prim.Native.Nat.{ℕ, suc, zero}
 use native.Mathlib.Decide.{ℕ-discrete}
 use Rattle.term_spec.specs.Words.{decode, encode, count, whole, records, write}
-use Rattle.term_spec.specs.Text.{isLetter, isDigit, isNameByte, every, identifierText, numberText, textRule, lower}
+use Rattle.term_spec.specs.Text.{isLetter, isDigit, isNameByte, every, identifierText, numberText, textRule, lower, stripped}
 use Rattle.term_spec.specs.Table.{table}
 use Rattle.term_spec.specs.Term.{Term, termOf, termLayout, noTerm, isScalar, depthK, deepest, bracketRule, symbolRule, termRuleK, termRule, termsRule}
 use Rattle.term_spec.specs.Value.{Value, char, ident, num, fromList, bracketed, valueK, valueOf, values, canon, canons, heads?, list?, same?}
@@ -43,6 +43,8 @@ exTerms =
     ∷ tm 4 0 1 7 ∷ tm 4 0 1 7 ∷ tm 4 1 1 7 ∷ tm 4 0 2 7 ∷ tm 4 0 1 8
     -- 25 and 26: a-b, a_b
     ∷ tm 1 15 3 0 ∷ tm 1 18 3 0
+    -- 27 to 32: the numbers 0, 00, 07 and 70, (7), (007)
+    ∷ tm 2 11 1 0 ∷ tm 2 11 2 0 ∷ tm 2 12 2 0 ∷ tm 2 10 2 0 ∷ tm 3 5 1 1 ∷ tm 3 6 1 1
     ∷ []
 
 -- Two terms of the list above, by their numbers, and whether they are equal.
@@ -62,7 +64,7 @@ said (yes h) = true
 said (no h) = false
 
 unfoldable equalValues : Value → Value → Bool
-unfolding same? list? heads? canon canons lower ℕ-discrete
+unfolding same? list? heads? canon canons lower stripped ℕ-discrete
 equalValues v w = said (same? (canon v) (canon w))
 
 unfoldable equalTerms : ℕ → ℕ → Bool
@@ -73,8 +75,10 @@ abbrev compared : List Compared
 compared =
     -- identifiers by their lowered text: Day and DAY, Day and Dax, Z and z; `-` is not `_`
     alike 0 1 ∷ unlike 0 2 ∷ alike 3 4 ∷ unlike 25 26 ∷ alike 25 25
-    -- numbers by their text, wherever it stands: 7 and 007, 7 and 7
-    ∷ unlike 5 6 ∷ alike 5 7
+    -- numbers without their leading zeros, wherever the text stands: 7 and 007, 007 and 07, 7 and 7, 0 and 00; 7 and 70, 0 and 7, 00 and 70
+    ∷ alike 5 6 ∷ alike 6 29 ∷ alike 5 7 ∷ alike 27 28 ∷ unlike 5 30 ∷ unlike 27 5 ∷ unlike 28 30
+    -- numbers in brackets: (7) and (007); (7) and 7
+    ∷ alike 31 32 ∷ unlike 31 5
     -- a Char and a Number, a Char and an Identifier of the same text; Chars by value, with their case
     ∷ unlike 5 8 ∷ unlike 4 9 ∷ unlike 3 10 ∷ unlike 9 10 ∷ alike 9 11
     -- brackets by their contents, term by term; a bracket and its only term
@@ -86,6 +90,12 @@ compared =
 compared-terms : map (λ e. equalTerms (e .left) (e .right)) compared ≡ map (λ e. e .answer) compared
 unfolding equalTerms
 compared-terms = refl
+
+-- A value has the spelling received, and so has what a binding shows: Day and DAY, 7 and 007, (007).
+values-spelled : map (λ i. getD (values exNames exTerms) i (char 0)) (0 ∷ 1 ∷ 5 ∷ 6 ∷ 32 ∷ [])
+    ≡ ident (68 ∷ 97 ∷ 121 ∷ []) ∷ ident (68 ∷ 65 ∷ 89 ∷ []) ∷ num (55 ∷ []) ∷ num (48 ∷ 48 ∷ 55 ∷ []) ∷ bracketed (num (48 ∷ 48 ∷ 55 ∷ []) ∷ []) ∷ []
+unfolding fromList bracketed valueK valueOf values table
+values-spelled = refl
 
 -- A Char, an Identifier and a Number of the same text, pairwise. (No rule allows the text 7 to an Identifier; they would differ all the same.)
 kinds-differ : map (equalValues (char 55)) (ident (55 ∷ []) ∷ num (55 ∷ []) ∷ []) ++ (equalValues (ident (55 ∷ [])) (num (55 ∷ [])) ∷ []) ≡ false ∷ false ∷ false ∷ []

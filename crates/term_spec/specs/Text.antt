@@ -51,3 +51,16 @@ textRule spelled names o n = leb 1 n && leb n textLimit && leb (o + n) (length n
 -- this rule.
 unfoldable pub lower : ℕ → ℕ
 lower c = elim (leb 65 c && leb c 90) [ true ↦ c + 32 | false ↦ c ]
+
+-- The digit `0`, and whether a byte is it.
+abbrev pub zeroDigit : ℕ
+zeroDigit = 48
+
+abbrev pub isZero : ℕ → Bool
+isZero c = eqb c zeroDigit
+
+-- A number's text as it is compared, stripped as 02 calls it (2.9): "leading zeros, except a last digit, are taken off". The one place that knows how.
+unfoldable pub stripped : List ℕ → List ℕ
+stripped [] = []
+stripped (c ∷ []) = c ∷ []
+stripped (c ∷ d ∷ l) = elim (isZero c) [ true ↦ stripped (d ∷ l) | false ↦ c ∷ d ∷ l ]

@@ -1,10 +1,10 @@
--- The tests of a byte, by computation over all 256 bytes: each list of answers is counted out range by range.
+-- The tests of a byte, by computation over all 256 bytes: each list of answers is counted out range by range. Numbers as they are compared.
 use mathlib.Core.Path.{_≡_, refl}
-use mathlib.Core.List.{List, _++_, map}
+use mathlib.Core.List.{List, [], _∷_, _++_, map}
 use mathlib.Core.Bool.{Bool, true, false}
 use lib.ListN.{length, replicate}
 use Prim.Native.Nat.{ℕ}
-use Rattle.term_spec.specs.Text.{isLetter, isDigit, isNameByte, lower}
+use Rattle.term_spec.specs.Text.{isLetter, isDigit, isNameByte, lower, stripped}
 use Rattle.term_spec.specs.ListLaws.{numbersFrom as from}
 
 abbrev bytes : List ℕ
@@ -36,3 +36,29 @@ name-bytes = refl
 lowered-bytes : map lower bytes ≡ from 0 65 ++ from 97 26 ++ from 91 165
 unfolding lower
 lowered-bytes = refl
+
+-- ---- numbers as they are compared ----
+
+-- Texts of digits, each with what is compared of it.
+abbrev strippedTexts : List (List ℕ × List ℕ)
+strippedTexts =
+    -- 7, 07 and 007 are 7
+    (55 ∷ [], 55 ∷ [])
+    ∷ (48 ∷ 55 ∷ [], 55 ∷ [])
+    ∷ (48 ∷ 48 ∷ 55 ∷ [], 55 ∷ [])
+    -- a last digit stays: 0, 00 and 000 are 0
+    ∷ (48 ∷ [], 48 ∷ [])
+    ∷ (48 ∷ 48 ∷ [], 48 ∷ [])
+    ∷ (48 ∷ 48 ∷ 48 ∷ [], 48 ∷ [])
+    -- zeros that do not lead stay: 70, 7007, and 0070 is 70
+    ∷ (55 ∷ 48 ∷ [], 55 ∷ 48 ∷ [])
+    ∷ (55 ∷ 48 ∷ 48 ∷ 55 ∷ [], 55 ∷ 48 ∷ 48 ∷ 55 ∷ [])
+    ∷ (48 ∷ 48 ∷ 55 ∷ 48 ∷ [], 55 ∷ 48 ∷ [])
+    -- of the longest texts too: 254 zeros and a 7 are 7, 255 zeros are 0
+    ∷ (replicate 254 48 ++ (55 ∷ []), 55 ∷ [])
+    ∷ (replicate 255 48, 48 ∷ [])
+    ∷ []
+
+numbers-stripped : map (λ p. stripped (p .0)) strippedTexts ≡ map (λ p. p .1) strippedTexts
+unfolding stripped
+numbers-stripped = refl

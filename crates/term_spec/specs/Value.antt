@@ -7,7 +7,7 @@ use lib.Dec.{T}
 use lib.ListN.{getD}
 use Prim.Native.Nat.{ℕ, suc, zero}
 use native.Mathlib.Decide.{ℕ-discrete}
-use Rattle.term_spec.specs.Text.{lower, textAt}
+use Rattle.term_spec.specs.Text.{lower, stripped, textAt}
 use Rattle.term_spec.specs.Term.{Term, part, contentsRun}
 use Rattle.term_spec.specs.Table.{table}
 
@@ -66,14 +66,14 @@ valueOf names t below = valueK (t .kind) (textAt names (t .a) (t .b)) t below
 unfoldable pub values : List ℕ → List Term → List Value
 values names ts = table (valueOf names) ts []
 
--- Canonical forms. "Chars are equal by value, numbers by text, unknowns by kind, level and index; two brackets are equal when
--- their runs are equal, term by term. Identifiers are equal with ASCII case ignored." How numbers compare stands in the
--- clause of num alone (02: 2.9).
+-- Canonical forms. "Chars are equal by value, .. unknowns by kind, level and index; two brackets are equal when their runs are equal, term by term.
+-- Identifiers are equal with ASCII case ignored." Numbers "are now equal when they are equal after leading zeros, except a last digit, are taken off"
+-- (02: 2.9, in place of 01's "numbers by text"); that stands in the clause of num alone.
 unfoldable mutual
   pub canon : Value → Value
   canon (char c) = char c
   canon (ident s) = ident (map lower s)
-  canon (num s) = num s
+  canon (num s) = num (stripped s)
   canon (bracket l) = bracket (canons l)
   canon (unknown k l i) = unknown k l i
 

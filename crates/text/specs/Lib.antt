@@ -1,3 +1,4 @@
 pub mod Texts
 pub mod TextLaws
 pub mod LowerTable
+pub mod NumberLaws

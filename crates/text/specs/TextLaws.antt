@@ -13,10 +13,10 @@ use native.Mathlib.Omega.{arith}
 use Rattle.term_spec.specs.BoolLaws.{both-of}
 use Rattle.term_spec.specs.Text.{isLetter, every, identifierText, numberText, variableText, textAt, textLimit, textRule}
 use Rattle.term_spec.specs.Term.{identifierKind, numberKind}
-use Rattle.term_spec.specs.Value.{ident, num, canon}
+use Rattle.term_spec.specs.Value.{ident, canon}
 use Rattle.term_spec.specs.ValueLaws.{is-yes, is-no, yes-of, alike}
 use Rattle.term_spec.specs.ListLaws.{part-length}
-use Rattle.text.specs.Texts.{byteTest, spelled, spelling, folded, textsEqual, identifiersEqual, numbersEqual}
+use Rattle.text.specs.Texts.{byteTest, spelled, spelling, folded, textsEqual, identifiersEqual}
 
 -- ---- a text byte by byte ----
 
@@ -48,15 +48,15 @@ left-none names o n i h = let e : n - i ≡ 0 = omega arith in rw e
 
 -- ---- what a text spells ----
 
-pub spelled-more :
-    (digits : Bool) (names : List ℕ) (o n i : ℕ) {b : Bool} → i < n → o + n ≤ length names → byteTest digits (getD names (o + i) 0) ≡ b
-    → spelled digits (left names o n i) ≡ b && spelled digits (left names o n (i + 1))
-unfolding spelled every
-spelled-more digits names o n i h w e = rw (left-more names o n i, every, e)
+pub every-more :
+    (test : ℕ → Bool) (names : List ℕ) (o n i : ℕ) {b : Bool} → i < n → o + n ≤ length names → test (getD names (o + i) 0) ≡ b
+    → every test (left names o n i) ≡ b && every test (left names o n (i + 1))
+unfolding every
+every-more test names o n i h w e = rw (left-more names o n i, every, e)
 
-pub spelled-none : (digits : Bool) (names : List ℕ) (o n i : ℕ) → n ≤ i → spelled digits (left names o n i) ≡ true
-unfolding spelled every
-spelled-none digits names o n i h = rw (left-none names o n i)
+pub every-none : (test : ℕ → Bool) (names : List ℕ) (o n i : ℕ) → n ≤ i → every test (left names o n i) ≡ true
+unfolding every
+every-none test names o n i h = rw (left-none names o n i)
 
 -- each kind of text
 pub spelling-identifier :
@@ -124,12 +124,12 @@ same-lengths fold names o n p m v w h = is-no _ (λ q. h (sym (long o n v) ∙ a
     long : (o n : ℕ) → o + n ≤ length names → length (map (folded fold) (textAt names o n)) ≡ n
     long o n v = length-map (textAt names o n) (folded fold) ∙ part-length names o n v
 
--- Equality of identifiers and of numbers, as values, is that of their texts, with and without folding.
+-- Equality of identifiers, as values, is that of their texts with folding.
 pub identifiers : (x y : List ℕ) → identifiersEqual x y ≡ textsEqual true x y
 unfolding identifiersEqual textsEqual canon folded
 identifiers x y = alike _ _ (λ q. cc) (λ q. ap ident q)
 
-unfolded : (x : List ℕ) → map (folded false) x ≡ x
+pub unfolded : (x : List ℕ) → map (folded false) x ≡ x
 unfolding folded
 unfolded [] = refl
 unfolded (c ∷ x) = ap (c ∷_) (unfolded x)
@@ -138,7 +138,3 @@ unfolded (c ∷ x) = ap (c ∷_) (unfolded x)
 pub same-folded : (x y : List ℕ) → textsEqual false x y ≡ true → textsEqual true x y ≡ true
 unfolding textsEqual
 same-folded x y e = is-yes _ (ap (map (folded true)) (sym (unfolded x) ∙ yes-of _ e ∙ unfolded y))
-
-pub numbers : (x y : List ℕ) → numbersEqual x y ≡ textsEqual false x y
-unfolding numbersEqual textsEqual canon
-numbers x y = rw (unfolded x, unfolded y) (alike _ _ (λ q. cc) (λ q. ap num q))

@@ -4,7 +4,7 @@ ghost use mathlib.Core.Path.{_≡_};
 ghost use mathlib.Core.Bool.{true, false};
 ghost use Prim.Native.Nat.{_+_, _<_, _≤_};
 ghost use lib.ListN.{length};
-ghost use Rattle.term_spec.specs.Text.{isLetter, isDigit, isNameByte, lower as lowered, textAt, textRule};
+ghost use Rattle.term_spec.specs.Text.{isLetter, isDigit, isNameByte, every, isZero, lower as lowered, textAt, textRule};
 ghost use Rattle.text.specs.Texts.{byteTest, spelled, spelling, textsEqual, identifiersEqual, numbersEqual};
 ghost use Rattle.text.specs.LowerTable.{loweredBytes};
 
@@ -201,15 +201,50 @@ pub fn same_identifiers(names: &[u8], o: usize, n: usize, p: usize, m: usize) ->
     equal_lowered(names, o, p, n)
 }
 
-// Whether two numbers are equal, given by offset and length: by text.
+// Whether the n bytes at o are all zeros.
+fn all_zeros(names: &[u8], o: usize, n: usize) -> bool
+    requires { ⌜ o + n ≤ length (now names) ⌝ }
+    ensures { λ r. ⌜ r ≡ every isZero (textAt (now (names .entry)) o n) ⌝ }
+{
+    let mut i = 0;
+    while i < n {
+        if names[o + i] != b'0' {
+            return false;
+        }
+        i += 1;
+    }
+    true
+}
+
+// Whether two numbers of different lengths are equal: the longer has zeros, and then the other's digits. A last digit is no leading zero, so no text is
+// equal to an empty one. It calls itself, so the compiler keeps it out of the loops that compare, and copies only `same_numbers` into them.
+fn same_stripped(names: &[u8], o: usize, n: usize, p: usize, m: usize) -> bool
+    requires { ⌜ (o + n ≤ length (now names)) × (p + m ≤ length (now names)) × (n ≡ m → ⊥) ⌝ }
+    ensures { λ r.
+        let text = textAt (now (names .entry)) in
+        ⌜ r ≡ numbersEqual (text o n) (text p m) ⌝ }
+{
+    if n < m {
+        return same_stripped(names, p, m, o, n);
+    }
+    if m == 0 {
+        return false;
+    }
+    if !all_zeros(names, o, n - m) {
+        return false;
+    }
+    equal_bytes(names, o + (n - m), p, m)
+}
+
+// Whether two numbers are equal, given by offset and length: leading zeros do not count.
 pub fn same_numbers(names: &[u8], o: usize, n: usize, p: usize, m: usize) -> bool
     requires { ⌜ (o + n ≤ length (now names)) × (p + m ≤ length (now names)) ⌝ }
     ensures { λ r.
         let text = textAt (now (names .entry)) in
         ⌜ r ≡ numbersEqual (text o n) (text p m) ⌝ }
 {
-    if n != m {
-        return false;
+    if n == m {
+        return equal_bytes(names, o, p, n);
     }
-    equal_bytes(names, o, p, n)
+    same_stripped(names, o, n, p, m)
 }

@@ -4,7 +4,7 @@ use mathlib.Core.List.{List, [], _∷_, _++_, map}
 use mathlib.Core.Bool.{Bool, true, false}
 use Prim.Native.Nat.{ℕ, suc, _+_}
 use native.Mathlib.Decide.{ℕ-discrete, decLe, decLt}
-use Rattle.term_spec.specs.Text.{lower}
+use Rattle.term_spec.specs.Text.{lower, stripped}
 use Rattle.term_spec.specs.Table.{table}
 use Rattle.term_spec.specs.Term.{Term, Run, noRun}
 use Rattle.term_spec.specs.Value.{Value, char, ident, num, fromList, bracketed, canon, canons, heads?, list?, same?, sames?, isYes}
@@ -299,13 +299,14 @@ places = (refl, refl, refl)
 abbrev Compares : Type 0
 Compares = List Value × List Value × Bool
 
--- The identifiers X and x are equal, also in brackets; the numbers 7 and 07 are not; a char is no identifier; lengths count.
+-- The identifiers X and x are equal, also in brackets; the numbers 7 and 07 too, 7 and 70 not; a char is no identifier; lengths count.
 abbrev equals : List Compares
 equals =
     ([], [], true)
     ∷ (ident (88 ∷ []) ∷ char 97 ∷ [], ident (120 ∷ []) ∷ char 97 ∷ [], true)
     ∷ (bracketed (ident (88 ∷ []) ∷ []) ∷ [], bracketed (ident (120 ∷ []) ∷ []) ∷ [], true)
-    ∷ (num (55 ∷ []) ∷ [], num (48 ∷ 55 ∷ []) ∷ [], false)
+    ∷ (num (55 ∷ []) ∷ [], num (48 ∷ 55 ∷ []) ∷ [], true)
+    ∷ (num (55 ∷ []) ∷ [], num (55 ∷ 48 ∷ []) ∷ [], false)
     ∷ (char 88 ∷ [], ident (88 ∷ []) ∷ [], false)
     ∷ (char 97 ∷ char 98 ∷ [], char 97 ∷ [], false)
     ∷ []
@@ -321,5 +322,5 @@ starts =
     ∷ []
 
 compared : (map (λ p. equalTerms (p .0) (p .1)) equals ≡ map (λ p. p .2) equals) × (map (λ p. startsWith (p .0) (p .1)) starts ≡ map (λ p. p .2) starts)
-unfolding equalTerms startsWith isYes sames? same? list? heads? bracketed fromList canon canons lower ℕ-discrete
+unfolding equalTerms startsWith isYes sames? same? list? heads? bracketed fromList canon canons lower stripped ℕ-discrete
 compared = (refl, refl)

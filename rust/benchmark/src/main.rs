@@ -24,10 +24,11 @@ use timing::Budget;
 /// Times one row or some like ones; an error where the two sides answer differently.
 type Row = fn(&mut Report) -> Result<(), String>;
 
-const ROWS: [(&str, Row); 21] = [
+const ROWS: [(&str, Row); 22] = [
     ("dash", matching::dash_in_one_run),
     ("dash-runs", matching::dash_in_eight_runs),
     ("identifiers", matching::identifiers),
+    ("numbers", matching::numbers),
     ("five", matching::five_open),
     ("doubled", matching::doubled),
     ("around", matching::around),

@@ -149,6 +149,12 @@ pub fn identifiers(report: &mut Report) -> Result<(), String> {
     Case::new(&message, "e.1 ZONE-B e.2", 20).time(report, "`e.1 ZONE-B e.2`, 1,000 identifiers")
 }
 
+/// Numbers that differ in their last digit, every 50th the one that the pattern has.
+pub fn numbers(report: &mut Report) -> Result<(), String> {
+    let message: String = (1..=1000).map(|i| if i % 50 == 0 { "1042 " } else { "1041 " }).collect();
+    Case::new(&message, "e.1 1042 e.2", 20).time(report, "`e.1 1042 e.2`, 1,000 numbers")
+}
+
 pub fn five_open(report: &mut Report) -> Result<(), String> {
     let message = format!("'{}'", "abcdefghij".repeat(6));
     let pattern = "e.1 'a' e.2 'b' e.3 'c' e.4 'd' e.5";

@@ -18,8 +18,8 @@ impl UnknownKind {
     pub(crate) const ALL: [UnknownKind; 3] = [UnknownKind::Symbol, UnknownKind::Term, UnknownKind::Expression];
 }
 
-/// A term with its contents. Equality here is by spelling: `kWh` and `KWH` are two values. The terms of a store are compared by
-/// [`crate::Store::equal`] and [`crate::Store::compare_runs`], which ignore the case of identifiers.
+/// A term with its contents. Equality here is by spelling: `kWh` and `KWH` are two values, and so are `7` and `007`. The terms of a store are
+/// compared by [`crate::Store::equal`] and [`crate::Store::compare_runs`], which ignore the case of identifiers and leading zeros of numbers.
 ///
 /// What is read from a text or a store is at most [`crate::MAX_DEPTH`] brackets deep. A value made by hand may be deeper: a store refuses it, and
 /// `clone` and `{:?}` of one many thousand deep need more stack than a thread has.
@@ -29,7 +29,7 @@ pub enum Value {
     Char(char),
     /// An ASCII letter, then letters, digits, `-` or `_`; at most 255 bytes.
     Identifier(String),
-    /// ASCII digits, 1 to 255 of them.
+    /// ASCII digits, 1 to 255 of them, kept as written.
     Number(String),
     /// A bracket with its contents.
     Bracket(Vec<Value>),

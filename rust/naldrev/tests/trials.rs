@@ -69,9 +69,19 @@ fn unknowns() {
 }
 
 #[test]
-fn numbers_by_text_and_identifiers_without_case() {
-    nowhere("7", "007");
+fn numbers_without_leading_zeros_and_identifiers_without_case() {
+    assert_eq!(found("7", "007"), [""]);
+    assert_eq!(found("000", "0"), [""]);
+    nowhere("7", "70");
+    nowhere("7", "0");
     assert_eq!(found("Day", "DAY"), [""]);
+}
+
+#[test]
+fn bindings_keep_the_spelling_received() {
+    assert_eq!(found("s.1 s.1", "007 7"), ["s.1[007]"]);
+    assert_eq!(found("e.1 e.1", "7 (00) 007 (0)"), ["e.1[7 (00)]"]);
+    assert_eq!(found("(kWh 42) s.1", "(KWH 0042) 0042"), ["s.1[0042]"]);
 }
 
 #[test]

@@ -1,15 +1,15 @@
--- `same_numbers` is the equality of numbers: that of their texts without folding, and texts of different lengths are not the same.
+-- `same_numbers`: numbers of one length are compared as they are, others as `same_stripped` says.
 use mathlib.Core.Path.{sym, _∙_}
-use Rattle.text.specs.TextLaws.{numbers, same-lengths}
+use Rattle.text.specs.NumberLaws.{numbers-same}
 use borrow.Author.Needs.{needs}
 use Rattle.text.proofs.same_numbers.Statement.{statement}
 use Rattle.text.proofs.same_numbers.Tie as tie
 
 returns : tie.Need-returns
-returns c = sym (numbers _ _ ∙ same-lengths _ _ _ _ _ _ (c .before .before .pre .0) (c .before .before .pre .1) (c .if1 .taken))
-
-returns-2 : tie.Need-returns-2
-returns-2 c = rw (← c .before .if1 .left) (c .equal-bytes .ensures ∙ sym (numbers _ _))
+returns c =
+    let at-if = c .before in
+    let pre = at-if .before .before .pre in
+    c .equal-bytes .ensures ∙ sym (numbers-same _ _ _ _ _ (pre .0) (pre .1) (at-if .if1 .taken))
 
 pub same-numbers-spec : {M : Type 1} → statement M
-same-numbers-spec = tie.close (tie.spec returns (λ c κs. search needs) returns-2)
+same-numbers-spec = tie.close (tie.spec (λ c κs. search needs) returns (λ c κs. search needs) (λ c. c .same-stripped .ensures))

@@ -13,7 +13,20 @@ type Spot = (u32, u32);
 
 pub const NAMES: &[u8] = b"xX7007aAbBcC12-_a-ba_bDayDAYpqrstuvwyz";
 const IDENTIFIERS: [Spot; 6] = [(0, 1), (1, 1), (16, 3), (19, 3), (22, 3), (25, 3)];
-const NUMBERS: [Spot; 2] = [(2, 1), (3, 3)];
+/// 7, 007, 07, 0, 00 and 70.
+const NUMBERS: [Spot; 6] = [(2, 1), (3, 3), (4, 2), (3, 1), (3, 2), (2, 2)];
+/// Identifiers and numbers, each with an equal one that is spelled otherwise.
+const RESPELLED: [(Spot, Spot); 9] = [
+    ((0, 1), (1, 1)),
+    ((1, 1), (0, 1)),
+    ((22, 3), (25, 3)),
+    ((25, 3), (22, 3)),
+    ((2, 1), (3, 3)),
+    ((3, 3), (4, 2)),
+    ((4, 2), (2, 1)),
+    ((3, 1), (3, 2)),
+    ((3, 2), (3, 1)),
+];
 /// Names that patterns and bindings share, some in both cases of letters.
 const VARIABLES: [Spot; 8] = [(6, 1), (7, 1), (8, 1), (9, 1), (12, 1), (14, 1), (15, 1), (22, 3)];
 
@@ -57,12 +70,11 @@ pub fn terms(random: &mut Random, count: usize) -> Vec<u32> {
     words
 }
 
-/// An earlier term again, an identifier with the case of its letters changed where the names have it so.
+/// An earlier term again, an identifier in other letters and a number with other zeros where the names have it so.
 fn twin(words: &[u32], of: usize) -> [u32; 4] {
     let [kind, a, b, c] = [0, 1, 2, 3].map(|i| words[4 * of + i]);
-    let pairs = [(0, 1), (1, 0), (22, 25), (25, 22)];
-    match pairs.iter().find(|(one, _)| kind == 1 && *one == a) {
-        Some((_, other)) => [kind, *other, b, c],
+    match RESPELLED.iter().find(|(one, _)| (1..=2).contains(&kind) && *one == (a, b)) {
+        Some((_, (offset, len))) => [kind, *offset, *len, c],
         None => [kind, a, b, c],
     }
 }

@@ -9,6 +9,7 @@ pub fn run(random: &mut Random, rounds: usize, tally: &mut Tally) {
     tally.bound = f64::INFINITY;
     for round in 0..rounds {
         names(random, tally);
+        numbers(tally);
         nesting(tally);
         depth(tally);
         records(tally);
@@ -79,6 +80,25 @@ fn names(random: &mut Random, tally: &mut Tally) {
         ask(tally, &store, field, &[5, 10, len, 0], &[], 4);
         ask(tally, &store, field, &[5, 0, 1, 0], &[6, 10, len, 0, 1], 4);
     }
+}
+
+/// Numbers of up to 255 digits that are zeros, or zeros before a 7 or before 70: each with each, as terms and as literals; and one of 256.
+fn numbers(tally: &mut Tally) {
+    let names = [&b"0".repeat(300)[..], b"70"].concat();
+    let spots: Vec<[u32; 2]> =
+        [1, 2, 3, 254, 255].into_iter().flat_map(|len| [[0, len], [301 - len, len], [302 - len.max(2), len.max(2)]]).collect();
+    let mut store = store(spots.iter().flat_map(|[offset, len]| [2, *offset, *len, 0]).collect(), 0, 2);
+    store.names = names;
+    let all = build(tally, &mut store, Call::FromRuns(vec![0, spots.len() as u32]));
+    for (i, [offset, len]) in spots.iter().enumerate() {
+        ask(tally, &store, all, &[7, 300, 1, 0, 2, *offset, *len, 0, 7, 301, 1, 0], &[], 400);
+        for j in 0..spots.len() {
+            tally.compare(&store, &Call::CompareRuns(i, 1, j, 1), None);
+        }
+    }
+    ask(tally, &store, all, &[5, 300, 1, 0, 7, 0, 1, 0, 5, 300, 1, 0, 7, 0, 2, 0], &[], 400);
+    store.terms[2] = 256;
+    tally.compare(&store, &Call::CompareRuns(0, 1, 1, 1), None);
 }
 
 /// A chain of brackets, the term with number i of depth i.

@@ -1,6 +1,6 @@
 //! What a call has to leave: the rules of document 01 for refusals, the Rust original for all else.
 use crate::opened;
-use crate::plain::values::{alike, values};
+use crate::plain::values::{alike, stripped, values};
 use crate::port::{Call, EMPTY, Field, LEFT_ALONE, Outcome, Request, Store, lent};
 use crate::recorder::{self, Noted};
 use crate::rules::{self, Name, capacity};
@@ -186,7 +186,7 @@ fn key(name: &Name) -> VariableKey {
     VariableKey { kind: KINDS[name.0 as usize - 5], name: name.1.clone() }
 }
 
-/// The records of a valid pattern from `at` to the end of its level, as terms of the Rust; `at` ends after it.
+/// The records of a valid pattern from `at` to the end of its level, as terms of the Rust, numbers stripped; `at` ends after it.
 pub fn pattern_terms(names: &[u8], words: &[u32], at: &mut usize) -> Vec<Term> {
     let mut made = Vec::new();
     while 4 * *at < words.len() {
@@ -196,7 +196,7 @@ pub fn pattern_terms(names: &[u8], words: &[u32], at: &mut usize) -> Vec<Term> {
         let kind = match record[0] {
             0 => TermKind::Symbol(Symbol::Char(char::from_u32(record[1]).unwrap())),
             1 => TermKind::Symbol(Symbol::Identifier(text())),
-            2 => TermKind::Symbol(Symbol::Number(text())),
+            2 => TermKind::Symbol(Symbol::Number(stripped(&text()).to_string())),
             3 => TermKind::Bracket(pattern_terms(names, words, at)),
             4 => break,
             8 => TermKind::Call {},
@@ -260,7 +260,7 @@ fn listed(store: &Store, call: &Call, request: &Request, field: Option<&ViewFiel
     Ok(Outcome { answer, values: vec![count, entries.len()], store: after, lent: slots })
 }
 
-/// A candidate's slot: where each of its values stands, and its length. The run there has to be the value, as spelled.
+/// A candidate's slot: where each of its values stands, and its length. The run there has to be the value, numbers stripped on both sides.
 fn placed(
     store: &Store,
     request: &Request,

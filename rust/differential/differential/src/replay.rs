@@ -16,7 +16,7 @@ const SLOTS: usize = 128;
 
 /// What stands at the top of the list, after the line that says how it was recorded.
 const HEAD: &str = "# from_runs, join, rest, range, equal and starts_with on stores of up to 14 terms, and listings and first matches on the fields so made.
-# What a listing copies to settle its field is dropped after it.";
+# What a listing copies to settle its field is dropped after it. The original was handed numbers without their leading zeros.";
 
 /// The words for the kinds of each record.
 const TERM: &[&str] = &["char", "ident", "number", "bracket", "unknown"];

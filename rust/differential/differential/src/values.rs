@@ -1,4 +1,4 @@
-//! Term records as values of the Rust, and values compared as spelled. Compiled twice: for value.rs, and for the copy that shows its nodes.
+//! Term records as values of the Rust, and values compared as it was handed them. Compiled twice: for value.rs, and for the copy that shows its nodes.
 use super::value::{Slice, Unknown, UnknownKind, Value};
 use refal_ast::Symbol;
 
@@ -6,7 +6,13 @@ fn spelled(names: &[u8], offset: u32, len: u32) -> String {
     String::from_utf8(names[offset as usize..(offset + len) as usize].to_vec()).expect("ASCII")
 }
 
-/// The values of all terms, by number.
+/// A number's text without leading zeros, a last digit kept. The original compares numbers by text, so it is handed them stripped (02: 2.9).
+pub fn stripped(text: &str) -> &str {
+    let zeros = text.bytes().take_while(|b| *b == b'0').count();
+    &text[zeros.min(text.len() - 1)..]
+}
+
+/// The values of all terms, by number; numbers are stripped.
 pub fn values(names: &[u8], terms: &[u32]) -> Vec<Value> {
     let kinds = [UnknownKind::Symbol, UnknownKind::Term, UnknownKind::Expression];
     let mut made: Vec<Value> = Vec::with_capacity(terms.len() / 4);
@@ -15,7 +21,7 @@ pub fn values(names: &[u8], terms: &[u32]) -> Vec<Value> {
         made.push(match kind {
             0 => Value::Char(char::from_u32(a).expect("a scalar value")),
             1 => Value::identifier(spelled(names, a, b)),
-            2 => Value::number(spelled(names, a, b)),
+            2 => Value::number(stripped(&spelled(names, a, b)).to_string()),
             3 => Value::Bracket(Slice::copied(&made[a as usize..(a + b) as usize])),
             _ => Value::Unknown(Unknown::new(kinds[a as usize], b.into(), Symbol::Number(c.to_string()))),
         });

@@ -42,6 +42,14 @@ fn identifiers_fit_whatever_their_case() {
 }
 
 #[test]
+fn numbers_fit_whatever_their_leading_zeros_and_keep_them() {
+    run(["try", "Session Harbour-3 (Connector 007) (kWh 042)", "Session s.point (Connector 7) (kWh s.energy)"])
+        .prints(FITS, "s.point = Harbour-3\ns.energy = 042\n");
+    run(["try", "--bind", "s.x=7", "007", "s.x"]).prints(FITS, "s.x = 7\n");
+    run(["try", "70", "7"]).is_no_match();
+}
+
+#[test]
 fn nothing_fits() {
     run(["try", "Session Harbour-3", PRICE]).is_no_match();
     run(["try", "--first", "Session Harbour-3", PRICE]).is_no_match();
