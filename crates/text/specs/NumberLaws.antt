@@ -2,8 +2,9 @@
 use mathlib.Core.Path.{_≡_, refl, ap, sym, _∙_}
 use mathlib.Core.List.{List, [], _∷_, _++_}
 use mathlib.Core.Bool.{Bool, true, false, _&&_, false≢true}
+use borrow.Author.Tests.{ne-eqb}
 use lib.Dec.{eqb→eq}
-use lib.ListN.{length, take, drop, replicate}
+use lib.ListN.{length, take, drop, getD, replicate}
 use lib.Seq.{take-take, drop-drop}
 use Prim.Native.Nat.{ℕ, suc, zero, _+_, _-_, _<_, _≤_}
 use native.Mathlib.Omega.{arith}
@@ -13,7 +14,7 @@ use Rattle.term_spec.specs.Value.{num, canon}
 use Rattle.term_spec.specs.ValueLaws.{is-no, alike}
 use Rattle.term_spec.specs.ListLaws.{drop-take, part-length}
 use Rattle.text.specs.Texts.{textsEqual, numbersEqual}
-use Rattle.text.specs.TextLaws.{unfolded}
+use Rattle.text.specs.TextLaws.{text-first, unfolded}
 
 -- What is stripped of a text: nothing where its first digit is no zero, and a zero before other digits.
 stripped-digit : (c : ℕ) (l : List ℕ) → isZero c ≡ false → stripped (c ∷ l) ≡ c ∷ l
@@ -111,7 +112,7 @@ numbers-zeros : (d : ℕ) (x y : List ℕ) → d < length x → every isZero (ta
 unfolding numbersEqual canon
 numbers-zeros d x y h k = rw (zeros-stripped d x h k)
 
--- Two numbers in the names: of one length; and the first longer, with an empty one, with other bytes than zeros before, with zeros.
+-- Two numbers in the names: of one length; and the first longer: the other empty, the surplus bytes not all zeros, the first byte none, all of them zeros.
 module _ (names : List ℕ) (o n p m : ℕ) (v : o + n ≤ length names) (w : p + m ≤ length names) where
   pub numbers-same : n ≡ m → numbersEqual (textAt names o n) (textAt names p m) ≡ textsEqual false (textAt names o n) (textAt names p n)
   numbers-same e =
@@ -135,6 +136,10 @@ module _ (names : List ℕ) (o n p m : ℕ) (v : o + n ≤ length names) (w : p 
 
     pub numbers-apart : every isZero (textAt names o (n - m)) ≡ false → numbersEqual (textAt names o n) (textAt names p m) ≡ false
     numbers-apart k = numbers-longer (n - m) _ _ more (ap (every isZero) front ∙ k)
+
+    pub numbers-digit : (getD names o 0 ≡ zeroDigit → ⊥) → numbersEqual (textAt names o n) (textAt names p m) ≡ false
+    unfolding every
+    numbers-digit k = numbers-apart (rw (text-first names o (n - m) (omega arith) (omega arith), every, ne-eqb (getD names o 0) zeroDigit k) refl)
 
     pub numbers-left : (m ≡ 0 → ⊥) → every isZero (textAt names o (n - m)) ≡ true
         → numbersEqual (textAt names o n) (textAt names p m) ≡ textsEqual false (textAt names (o + (n - m)) m) (textAt names p m)

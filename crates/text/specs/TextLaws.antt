@@ -21,7 +21,7 @@ use Rattle.text.specs.Texts.{byteTest, spelled, spelling, folded, textsE
 -- ---- a text byte by byte ----
 
 -- A text's first byte, and the rest.
-text-first : (names : List ℕ) (o n : ℕ) → 1 ≤ n → o + n ≤ length names → textAt names o n ≡ getD names o 0 ∷ textAt names (o + 1) (n - 1)
+pub text-first : (names : List ℕ) (o n : ℕ) → 1 ≤ n → o + n ≤ length names → textAt names o n ≡ getD names o 0 ∷ textAt names (o + 1) (n - 1)
 text-first names o n h w =
     let t : o < length names = omega arith in
     let e : n ≡ suc (n - 1) = omega arith in

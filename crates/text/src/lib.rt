@@ -225,6 +225,10 @@ fn same_stripped(names: &[u8], o: usize, n: usize, p: usize, m: usize) -> bool
         ⌜ r ≡ numbersEqual (text o n) (text p m) ⌝ }
 {
     if n < m {
+        // Most have no zero to lose, and need no second call.
+        if names[p] != b'0' {
+            return false;
+        }
         return same_stripped(names, p, m, o, n);
     }
     if m == 0 {
