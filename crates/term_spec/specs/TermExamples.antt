@@ -94,7 +94,7 @@ compared-terms = refl
 -- A value has the spelling received, and so has what a binding shows: Day and DAY, 7 and 007, (007).
 values-spelled : map (λ i. getD (values exNames exTerms) i (char 0)) (0 ∷ 1 ∷ 5 ∷ 6 ∷ 32 ∷ [])
     ≡ ident (68 ∷ 97 ∷ 121 ∷ []) ∷ ident (68 ∷ 65 ∷ 89 ∷ []) ∷ num (55 ∷ []) ∷ num (48 ∷ 48 ∷ 55 ∷ []) ∷ bracketed (num (48 ∷ 48 ∷ 55 ∷ []) ∷ []) ∷ []
-unfolding fromList bracketed valueK valueOf values table
+unfolding fromList bracketed valueK valueOf values table stripped
 values-spelled = refl
 
 -- A Char, an Identifier and a Number of the same text, pairwise. (No rule allows the text 7 to an Identifier; they would differ all the same.)
