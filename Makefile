@@ -11,7 +11,7 @@ INCLUDEDIR ?= $(PREFIX)/include
 
 # The version stands in the header. ABI goes up with every change after which programs have to be compiled again.
 VERSION := $(shell sed -n 's/^.define NALDREV_VERSION "\(.*\)"$$/\1/p' include/naldrev.h)
-ABI := 0
+ABI := 1
 ifeq ($(VERSION),)
 $(error include/naldrev.h has no NALDREV_VERSION)
 endif

@@ -1,4 +1,5 @@
-/* What the tries of all exports share: terms and fields read again, arguments, and what an answer may be and may have written. */
+/* What the tries of all exports share: terms and fields read again, the rule of terms, arguments, and what an answer may be and may have
+   written. */
 #ifndef FUZZ_ANSWERS_H
 #define FUZZ_ANSWERS_H
 
@@ -8,6 +9,8 @@
 /* ---- terms and fields read again ---- */
 
 static const uint32_t *term(size_t i) { return terms + i * NALDREV_TERM_WIDTH; }
+
+static bool same_words(const uint32_t *t, const uint32_t *u) { return memcmp(t, u, NALDREV_TERM_WIDTH * sizeof *t) == 0; }
 
 static bool equal_runs(size_t s, size_t n, size_t t, size_t m);
 
@@ -22,7 +25,7 @@ static bool equal_terms(size_t i, size_t j)
         return same_number(t[1], t[2], u[1], u[2]);
     if (t[0] == NALDREV_BRACKET)
         return equal_runs(t[1], t[2], u[1], u[2]);
-    return memcmp(t, u, NALDREV_TERM_WIDTH * sizeof *t) == 0;
+    return same_words(t, u);
 }
 
 static bool equal_runs(size_t s, size_t n, size_t t, size_t m)
@@ -85,6 +88,59 @@ static void expect_terms(const struct List *list, size_t first, size_t count, si
     expect(memcmp(third_list.at, list->at + first, count * sizeof list->at[0]) == 0, "a new field has other terms");
 }
 
+/* ---- the rule of terms ---- */
+
+static bool scalar_ok(uint32_t c) { return c < 0xD800 || (c > 0xDFFF && c <= 0x10FFFF); }
+
+/* The text of an identifier or a number. */
+static bool text_ok(const uint32_t *t)
+{
+    size_t o = t[1], n = t[2];
+    if (n < 1 || n > NALDREV_MAX_TEXT || o + n > draft.names_len || (t[0] == NALDREV_IDENTIFIER && !is_letter(draft.names[o])))
+        return false;
+    for (size_t i = o; i < o + n; i++) {
+        uint8_t c = draft.names[i];
+        if (!is_digit(c) && (t[0] == NALDREV_NUMBER || (!is_letter(c) && c != '-' && c != '_')))
+            return false;
+    }
+    return true;
+}
+
+/* The contents of term i, a bracket, and its depth. */
+static bool bracket_ok(size_t i, const uint32_t *t)
+{
+    uint32_t deepest = 0;
+    if ((size_t)t[1] + t[2] > i)
+        return false;
+    for (size_t j = t[1]; j < (size_t)t[1] + t[2]; j++) {
+        const uint32_t *u = draft.terms + j * NALDREV_TERM_WIDTH;
+        if (u[0] == NALDREV_BRACKET && u[3] > deepest)
+            deepest = u[3];
+    }
+    return t[3] == deepest + 1 && t[3] <= NALDREV_MAX_DEPTH;
+}
+
+static bool term_ok(size_t i)
+{
+    const uint32_t *t = draft.terms + i * NALDREV_TERM_WIDTH;
+    switch (t[0]) {
+    case NALDREV_CHAR: return scalar_ok(t[1]) && t[2] == 0 && t[3] == 0 && t[4] == 0;
+    case NALDREV_IDENTIFIER:
+    case NALDREV_NUMBER: return text_ok(t) && t[3] == 0 && t[4] == 0;
+    case NALDREV_BRACKET: return bracket_ok(i, t) && t[4] == 0;
+    case NALDREV_UNKNOWN: return t[1] <= 2;
+    default: return false;
+    }
+}
+
+static bool terms_ok(void)
+{
+    for (size_t i = 0; i < draft.terms_used; i++)
+        if (!term_ok(i))
+            return false;
+    return true;
+}
+
 /* ---- arguments ---- */
 
 static bool wild;
@@ -117,6 +173,9 @@ static size_t answered(int call, const size_t *allowed, size_t number)
     calls_of[call]++;
     expect(count_in(allowed, number) == 1, "the call answered a number that it cannot");
     answers[number]++;
+    /* Of the calls that check terms, 1 comes before 2, and all else after it. */
+    if (count_in(allowed, NALDREV_BAD_TERM) == 1 && number != NALDREV_UNEVEN)
+        expect((number == NALDREV_BAD_TERM) == !terms_ok(), "2 without a bad term, or a bad term without 2");
     return number;
 }
 

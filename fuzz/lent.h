@@ -68,7 +68,7 @@ enum { NAMES, TERMS, NODES, RUNS, PATTERN, BINDINGS, SLOTS, WORK, SHEET, OUT, RE
 /* What a call on sheets writes to. */
 struct Room {
     size_t out_len, terms_len, pattern_len, runs_len;
-    uint8_t out[NALDREV_ANSWER_BYTES + 64];
+    uint8_t out[(NALDREV_SHEET_BYTES > NALDREV_ANSWER_BYTES ? NALDREV_SHEET_BYTES : NALDREV_ANSWER_BYTES) + 64];
     uint32_t terms[(NALDREV_SHEET_TERMS + 8) * NALDREV_TERM_WIDTH];
     uint32_t pattern[(NALDREV_SHEET_PATTERN + 8) * NALDREV_PATTERN_WIDTH];
     uint32_t runs[(NALDREV_SHEET_RUNS + 8) * NALDREV_RUN_WIDTH];

@@ -143,7 +143,7 @@ static void make_parts(void)
         draft.runs[1] = (uint32_t)draft.terms_used;
     }
     if (long_lists && one_in(3))
-        for (size_t i = 0; i < draft.pattern_len; i += 4)
+        for (size_t i = 0; i < draft.pattern_len; i += NALDREV_PATTERN_WIDTH)
             put_variable(i);
     else if (draft.runs_len >= 2 && one_in(2))
         make_fitting_pattern(draft.runs[0], draft.runs[1], long_lists ? 2 : 3);
@@ -154,10 +154,11 @@ static void write_draft(void) { write_sheet(draft.terms_used, draft.names_len); 
 static void damage_records(void)
 {
     for (size_t i = 1 + below(3); i > 0; i--)
-        switch (below(4)) {
-        case 0: damage_words(draft.terms, draft.terms_used * 4); break;
-        case 1: damage_words(draft.pattern, draft.pattern_len); break;
-        case 2: damage_words(draft.runs, draft.runs_len); break;
+        switch (below(5)) {
+        case 0: damage_words(draft.terms, draft.terms_used * NALDREV_TERM_WIDTH); break;
+        case 1: damage_fifth(draft.terms_used); break;
+        case 2: damage_words(draft.pattern, draft.pattern_len); break;
+        case 3: damage_words(draft.runs, draft.runs_len); break;
         default: draft.names[below(draft.names_len)] = (uint8_t)next();
         }
     write_draft();
@@ -165,7 +166,7 @@ static void damage_records(void)
 
 static void random_records(void)
 {
-    random_words(draft.terms, draft.terms_used * 4);
+    random_words(draft.terms, draft.terms_used * NALDREV_TERM_WIDTH);
     random_words(draft.pattern, draft.pattern_len);
     random_words(draft.runs, draft.runs_len);
     write_draft();

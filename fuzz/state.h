@@ -78,6 +78,12 @@ static void put(uint32_t *record, uint32_t kind, size_t a, size_t b, size_t c)
     record[3] = (uint32_t)c;
 }
 
+static void put_term(uint32_t *record, uint32_t kind, size_t a, size_t b, size_t c, size_t d)
+{
+    put(record, kind, a, b, c);
+    record[4] = (uint32_t)d;
+}
+
 /* Names of letters, digits, - and _ over few letters and many zeros, so that texts are often equal. */
 static void make_names(size_t len)
 {
@@ -135,14 +141,39 @@ static void make_bracket(size_t i, uint32_t *spelled)
         size = 1;
         depth = 0;
     }
-    put(draft.terms + i * NALDREV_TERM_WIDTH, NALDREV_BRACKET, start, len, depth + 1);
+    put_term(draft.terms + i * NALDREV_TERM_WIDTH, NALDREV_BRACKET, start, len, depth + 1, 0);
     spelled[i] = size;
+}
+
+/* Half a level: one of few values, so that 0 and 2^64 - 1 come often. */
+static size_t half_level(void) { return one_in(9) ? odd() : one_in(3) ? 0xFFFFFFFF : below(2); }
+
+static size_t some_index(void) { return one_in(9) ? odd() : below(2); }
+
+/* An unknown like another: the same, with one word of its own, or with the halves of its level exchanged. So levels often agree in one half alone. */
+static void make_like(uint32_t *t, const uint32_t *other)
+{
+    memcpy(t, other, NALDREV_TERM_WIDTH * sizeof *t);
+    switch (below(7)) {
+    case 0: t[1] = (uint32_t)below(3); break;
+    case 1: t[2] = (uint32_t)half_level(); break;
+    case 2: t[3] = (uint32_t)some_index(); break;
+    case 3: t[4] = (uint32_t)half_level(); break;
+    case 4:
+        t[2] = other[4];
+        t[4] = other[2];
+        break;
+    default: break;
+    }
 }
 
 static void make_terms(size_t used)
 {
     static uint32_t spelled[MOST];
     size_t o, n;
+    bool many_unknowns = one_in(6);
+    uint32_t unknown[NALDREV_TERM_WIDTH];
+    put_term(unknown, NALDREV_UNKNOWN, below(3), half_level(), some_index(), half_level());
     draft.terms_used = used;
     for (size_t i = 0; i < used; i++) {
         uint32_t *t = draft.terms + i * NALDREV_TERM_WIDTH;
@@ -150,12 +181,12 @@ static void make_terms(size_t used)
         spelled[i] = 1;
         if (kind == NALDREV_BRACKET)
             make_bracket(i, spelled);
-        else if (kind == NALDREV_UNKNOWN)
-            put(t, kind, below(3), one_in(9) ? odd() : below(2), one_in(9) ? odd() : below(2));
+        else if (kind == NALDREV_UNKNOWN || many_unknowns)
+            make_like(t, unknown);
         else if ((kind == NALDREV_IDENTIFIER || kind == NALDREV_NUMBER) && find_text(kind, &o, &n))
-            put(t, kind, o, n, 0);
+            put_term(t, kind, o, n, 0, 0);
         else
-            put(t, NALDREV_CHAR, some_char(), 0, 0);
+            put_term(t, NALDREV_CHAR, some_char(), 0, 0, 0);
     }
 }
 
@@ -306,6 +337,13 @@ static void damage_words(uint32_t *words, size_t len)
     case 1: *w = (uint32_t)near(*w); break;
     default: *w ^= (uint32_t)1 << below(32);
     }
+}
+
+/* The fifth word of one of the first terms. Only that of an unknown may be other than 0. */
+static void damage_fifth(size_t count)
+{
+    if (count > 0)
+        draft.terms[below(count) * NALDREV_TERM_WIDTH + 4] = (uint32_t)odd();
 }
 
 static void random_words(uint32_t *words, size_t len)

@@ -108,27 +108,35 @@ static void valid_case(void)
 static void damage_length(void)
 {
     switch (below(9)) {
-    case 0: draft.terms_len += below(5); break;
-    case 1: draft.nodes_len += below(7); break;
-    case 2: draft.runs_len += below(3); break;
-    case 3: draft.pattern_len += below(5); break;
-    case 4: draft.bindings_len += below(6); break;
-    case 5: draft.work_len += below(5); break;
+    case 0: draft.terms_len += below(NALDREV_TERM_WIDTH + 1); break;
+    case 1: draft.nodes_len += below(NALDREV_NODE_WIDTH + 1); break;
+    case 2: draft.runs_len += below(NALDREV_RUN_WIDTH + 1); break;
+    case 3: draft.pattern_len += below(NALDREV_PATTERN_WIDTH + 1); break;
+    case 4: draft.bindings_len += below(NALDREV_BINDING_WIDTH + 1); break;
+    case 5: draft.work_len += below(NALDREV_TERM_WIDTH + 1); break;
     case 6: draft.terms_used = one_in(2) ? odd() : near(draft.terms_used); break;
     case 7: draft.nodes_used = one_in(2) ? odd() : near(draft.nodes_used); break;
     default: draft.names_len -= below(draft.names_len + 1) / 2;
     }
 }
 
+/* How many of the used terms are there: a damaged count may pass its slice. */
+static size_t terms_there(void)
+{
+    size_t most = draft.terms_len / NALDREV_TERM_WIDTH;
+    return draft.terms_used < most ? draft.terms_used : most;
+}
+
 static void damage(void)
 {
-    switch (below(7)) {
+    switch (below(8)) {
     case 0: draft.names[below(draft.names_len)] = (uint8_t)next(); break;
     case 1: damage_words(draft.terms, draft.terms_len); break;
-    case 2: damage_words(draft.nodes, draft.nodes_len); break;
-    case 3: damage_words(draft.runs, draft.runs_len); break;
-    case 4: damage_words(draft.pattern, draft.pattern_len); break;
-    case 5: damage_words(draft.bindings, draft.bindings_len); break;
+    case 2: damage_fifth(terms_there()); break;
+    case 3: damage_words(draft.nodes, draft.nodes_len); break;
+    case 4: damage_words(draft.runs, draft.runs_len); break;
+    case 5: damage_words(draft.pattern, draft.pattern_len); break;
+    case 6: damage_words(draft.bindings, draft.bindings_len); break;
     default: damage_length();
     }
 }

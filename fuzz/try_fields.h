@@ -129,7 +129,7 @@ static void try_flatten(void)
     const uint32_t *shown = out_a == 1 ? work : terms + out_b * NALDREV_TERM_WIDTH;
     expect(out_a == 1 ? out_b == 0 : out_b + l <= draft.terms_used, "the part shown is past its store");
     for (size_t i = 0; i < l; i++)
-        expect(memcmp(shown + i * NALDREV_TERM_WIDTH, term(first_list.at[i]), 4 * sizeof(uint32_t)) == 0, "the part shown has other terms");
+        expect(same_words(shown + i * NALDREV_TERM_WIDTH, term(first_list.at[i])), "the part shown has other terms");
 }
 
 static void try_compare_runs(void)

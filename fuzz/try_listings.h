@@ -69,7 +69,7 @@ static size_t settled_at(size_t node, size_t len, size_t used)
                "the count of terms moved by another number than the field's length");
         spell_field(&first_list, node, len);
         for (size_t i = 0; i < len; i++)
-            expect(memcmp(term(draft.terms_used + i), term(first_list.at[i]), 4 * sizeof(uint32_t)) == 0, "the copy has other terms");
+            expect(same_words(term(draft.terms_used + i), term(first_list.at[i])), "the copy has other terms");
         return draft.terms_used;
     }
     return len == 0 ? 0 : nodes[node * NALDREV_NODE_WIDTH + 1];

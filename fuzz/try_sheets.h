@@ -27,9 +27,7 @@ static uint8_t *lend_out(size_t need)
 /* The case's records as a sheet, in half of the calls changed. */
 static const uint8_t *lend_sheet(void)
 {
-    size_t count = draft.terms_len / NALDREV_TERM_WIDTH, change = below(2 * TEXT_CHANGES);
-    if (count > draft.terms_used)
-        count = draft.terms_used;
+    size_t count = terms_there(), change = below(2 * TEXT_CHANGES);
     write_sheet(count <= NALDREV_SHEET_TERMS ? count : NALDREV_SHEET_TERMS + 1,
                 draft.names_len <= NALDREV_SHEET_NAMES ? draft.names_len : NALDREV_SHEET_NAMES + 1);
     if (change < TEXT_CHANGES)
@@ -69,7 +67,7 @@ static void has_read(const uint32_t *t, size_t t_len, size_t names_len, const ui
     expect(out_a == t_len / NALDREV_TERM_WIDTH && out_c == names_len && out_d == p_len / NALDREV_PATTERN_WIDTH &&
                out_e == r_len / NALDREV_RUN_WIDTH,
            "a count is another one");
-    expect(out_b == LINE + LINE * out_a, "the names start elsewhere");
+    expect(out_b == LINE + TERM_LINE * out_a, "the names start elsewhere");
 }
 
 static void try_read_sheet(void)

@@ -40,9 +40,9 @@ extern "C" {
 /* Of these headers and of the library that they belong to. As long as the first number is 0, a change of the second may change the calls or
    what they answer. */
 #define NALDREV_VERSION_MAJOR 0
-#define NALDREV_VERSION_MINOR 2
+#define NALDREV_VERSION_MINOR 3
 #define NALDREV_VERSION_PATCH 0
-#define NALDREV_VERSION "0.2.0"
+#define NALDREV_VERSION "0.3.0"
 #define NALDREV_VERSION_NUMBER (NALDREV_VERSION_MAJOR * 1000000 + NALDREV_VERSION_MINOR * 1000 + NALDREV_VERSION_PATCH)
 
 /* ---- stack ---- */
@@ -98,7 +98,7 @@ static inline const char *naldrev_text(size_t number)
 
 /* ---- widths of the records, in words ---- */
 
-#define NALDREV_TERM_WIDTH 4    /* kind, a, b, c */
+#define NALDREV_TERM_WIDTH 5    /* kind, a, b, c, d */
 #define NALDREV_NODE_WIDTH 6    /* kind, a, b, c, height, reach */
 #define NALDREV_RUN_WIDTH 2     /* start, length, both counted in terms of the term store */
 #define NALDREV_PATTERN_WIDTH 4 /* kind, a, b, 0 */
@@ -106,12 +106,12 @@ static inline const char *naldrev_text(size_t number)
 
 /* ---- kinds of records ---- */
 
-/* Terms; 0 to 2 are kinds of pattern records too. */
+/* Terms; 0 to 2 are kinds of pattern records too. A word that is not named here has to be 0. */
 #define NALDREV_CHAR 0       /* a: Unicode scalar value */
 #define NALDREV_IDENTIFIER 1 /* a, b: offset and length in the names; compared with ASCII case ignored */
 #define NALDREV_NUMBER 2     /* a, b: offset and length in the names; compared without leading zeros, 007 as 7 */
 #define NALDREV_BRACKET 3    /* a, b: start and length of the contents, all below; c: depth */
-#define NALDREV_UNKNOWN 4    /* a: 0 symbol, 1 term, 2 expression; b: level; c: index */
+#define NALDREV_UNKNOWN 4    /* a: 0 symbol, 1 term, 2 expression; b, d: lower and upper 32 bits of the level; c: index */
 
 /* Pattern records; 5 to 7 are kinds of bindings too. */
 #define NALDREV_OPEN 3         /* a: its close */
@@ -140,7 +140,7 @@ static inline const char *naldrev_text(size_t number)
 #define NALDREV_SHEET_NAMES 4096   /* bytes */
 #define NALDREV_SHEET_PATTERN 256  /* records */
 #define NALDREV_SHEET_RUNS 64
-#define NALDREV_SHEET_BYTES 38250  /* of the longest text of a sheet */
+#define NALDREV_SHEET_BYTES 43370  /* of the longest text of a sheet */
 #define NALDREV_ANSWER_BYTES 42025 /* of the longest text that naldrev_run_sheet writes */
 
 /* ---- calls that build a field: node and len of the new field are written ---- */

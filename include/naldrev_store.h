@@ -128,6 +128,24 @@ static inline size_t naldrev_store_init(naldrev_store *store)
     return NALDREV_OK;
 }
 
+/* ---- unknowns ---- */
+
+/* Writes the words of an unknown. Kind is 0 for a symbol, 1 for a term, 2 for an expression. */
+static inline void naldrev_unknown_write(uint32_t *term, uint32_t kind, uint64_t level, uint32_t index)
+{
+    term[0] = NALDREV_UNKNOWN;
+    term[1] = kind;
+    term[2] = (uint32_t)level;
+    term[3] = index;
+    term[4] = (uint32_t)(level >> 32);
+}
+
+/* The level of an unknown, from the two words that hold it. */
+static inline uint64_t naldrev_unknown_level(const uint32_t *term)
+{
+    return (uint64_t)term[4] << 32 | term[2];
+}
+
 /* ---- calls that build a field ---- */
 
 /* The terms of runs, in order: two words each, start and length. */

@@ -77,6 +77,7 @@ static void add_term(uint32_t kind, uint32_t a, uint32_t b, uint32_t c)
     term[1] = a;
     term[2] = b;
     term[3] = c;
+    term[4] = 0; /* only unknowns use it */
     store.terms_used++;
 }
 

@@ -34,6 +34,7 @@ static size_t add_term(naldrev_store *store, uint32_t kind, size_t a, size_t b, 
     at[1] = (uint32_t)a;
     at[2] = (uint32_t)b;
     at[3] = (uint32_t)c;
+    at[4] = 0;
     return store->terms_used++;
 }
 

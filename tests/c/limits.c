@@ -3,6 +3,7 @@
 #include "expect.h"
 
 #include <naldrev_store.h>
+#include <stdlib.h>
 #include <string.h>
 
 #define LENGTH(a) (sizeof(a) / sizeof((a)[0]))
@@ -39,7 +40,11 @@ static void add_term(uint32_t kind, uint32_t a, uint32_t b, uint32_t c)
     at[1] = a;
     at[2] = b;
     at[3] = c;
+    at[4] = 0;
 }
+
+/* Gives the term that was added last its fifth word. */
+static void set_fifth(uint32_t d) { terms[store.terms_used * NALDREV_TERM_WIDTH - 1] = d; }
 
 static void set_record(size_t i, uint32_t kind, uint32_t a, uint32_t b)
 {
@@ -186,6 +191,58 @@ static void try_sheet_limits(void)
     EXPECT(memcmp(answer, "        15        16        64         0\n", 41) == 0);
 }
 
+/* The number that the answer to a sheet starts with. */
+static size_t answer_to(const uint8_t *sheet, size_t len)
+{
+    char number[11] = "";
+    size_t written = 0;
+    EXPECT(naldrev_run_sheet(sheet, len, answer, sizeof answer, &written) == NALDREV_OK && written >= sizeof number);
+    memcpy(number, answer, sizeof number - 1);
+    return (size_t)strtoul(number, NULL, 10);
+}
+
+/* The largest sheet is read as it was written, and answered: its 256 characters fit no empty message. Its terms are unknowns of different
+   levels. */
+static void try_largest_sheet(void)
+{
+    static uint32_t own_terms[NALDREV_SHEET_TERMS * NALDREV_TERM_WIDTH], own_pattern[NALDREV_SHEET_PATTERN * NALDREV_PATTERN_WIDTH];
+    static uint32_t own_runs[NALDREV_SHEET_RUNS * NALDREV_RUN_WIDTH];
+    naldrev_sheet sheet = {NULL, 0, own_terms, LENGTH(own_terms), own_pattern, LENGTH(own_pattern), own_runs, LENGTH(own_runs)};
+    size_t len = 0;
+    begin();
+    for (uint32_t i = 0; i < NALDREV_SHEET_TERMS; i++) {
+        add_term(NALDREV_UNKNOWN, i % 3, i, 0);
+        set_fifth(UINT32_MAX - i);
+    }
+    EXPECT(wrote(0, 0, 0, 0, NALDREV_SHEET_BYTES, &len) == NALDREV_OK && len == NALDREV_SHEET_BYTES);
+    EXPECT(naldrev_sheet_read(&sheet, text, len) == NALDREV_OK && sheet.names_len == NALDREV_SHEET_NAMES &&
+           memcmp(sheet.names, names, NALDREV_SHEET_NAMES) == 0);
+    EXPECT(sheet.terms_len == LENGTH(own_terms) && sheet.pattern_len == LENGTH(own_pattern) && sheet.runs_len == LENGTH(own_runs));
+    EXPECT(memcmp(own_terms, terms, sizeof own_terms) == 0 && memcmp(own_pattern, pattern, sizeof own_pattern) == 0);
+    EXPECT(answer_to(text, len) == NALDREV_NO_MATCH);
+    text[len] = '\n';
+    EXPECT(answer_to(text, len + 1) == NALDREV_BAD_SHEET);
+}
+
+/* The columns of a sheet's lines. */
+#define COUNTS(terms, records) "         " terms "         0         " records "         0"
+#define CHAR_X "         0       120         0         0"
+#define ZERO "         0"
+#define ONE "         1"
+#define ANSWER_TO(sheet) answer_to((const uint8_t *)(sheet), sizeof(sheet) - 1)
+
+/* The lines of terms have five columns, the others four. */
+static void try_sheet_columns(void)
+{
+    EXPECT(ANSWER_TO(COUNTS("1", "0") "\n" CHAR_X ZERO "\n\n") == NALDREV_OK);
+    EXPECT(ANSWER_TO(COUNTS("1", "0") "\n" CHAR_X "\n\n") == NALDREV_BAD_SHEET);
+    EXPECT(ANSWER_TO(COUNTS("1", "0") "\n" CHAR_X ZERO ZERO "\n\n") == NALDREV_BAD_SHEET);
+    EXPECT(ANSWER_TO(COUNTS("1", "0") ZERO "\n" CHAR_X ZERO "\n\n") == NALDREV_BAD_SHEET);
+    EXPECT(ANSWER_TO(COUNTS("1", "0") "\n" CHAR_X ONE "\n\n") == NALDREV_BAD_TERM);
+    EXPECT(ANSWER_TO(COUNTS("0", "1") "\n\n" CHAR_X "\n") == NALDREV_NO_MATCH);
+    EXPECT(ANSWER_TO(COUNTS("0", "1") "\n\n" CHAR_X ZERO "\n") == NALDREV_BAD_SHEET);
+}
+
 /* ---- numbers that no limit brings ---- */
 
 static void try_numbers(void)
@@ -292,6 +349,70 @@ static void try_comparing(void)
     EXPECT(listed(made, 1) == NALDREV_OK);
 }
 
+/* The fifth word is free in an unknown, and has to be 0 in every other kind. */
+static void try_fifth_word(void)
+{
+    static const uint32_t others[][4] = {
+        {NALDREV_CHAR, 'x', 0, 0}, {NALDREV_IDENTIFIER, LETTERS, 2, 0}, {NALDREV_NUMBER, 0, 2, 0}, {NALDREV_BRACKET, 0, 0, 1}};
+    static const uint32_t fifths[] = {1, 1u << 31, UINT32_MAX};
+    for (size_t i = 0; i < LENGTH(others) * LENGTH(fifths); i++) {
+        const uint32_t *t = others[i / LENGTH(fifths)];
+        begin();
+        add_term(t[0], t[1], t[2], t[3]);
+        EXPECT(checked() == NALDREV_OK);
+        set_fifth(fifths[i % LENGTH(fifths)]);
+        EXPECT(checked() == NALDREV_BAD_TERM);
+    }
+    begin();
+    add_term(NALDREV_UNKNOWN, 0, UINT32_MAX, UINT32_MAX);
+    set_fifth(UINT32_MAX);
+    EXPECT(checked() == NALDREV_OK);
+}
+
+static void add_unknown(uint64_t level) { naldrev_unknown_write(terms + store.terms_used++ * NALDREV_TERM_WIDTH, 2, level, 6); }
+
+/* Both halves of a level count, in every call that compares. */
+static void try_levels(void)
+{
+    const uint64_t high = (uint64_t)1 << 32, levels[] = {5 * high, 5, high + 5, high + 5, high + 6, UINT64_MAX, UINT32_MAX, 0};
+    begin();
+    for (size_t i = 0; i < LENGTH(levels); i++)
+        add_unknown(levels[i]);
+    set_record(0, NALDREV_E_VARIABLE, 0, 1);
+    set_record(1, NALDREV_E_VARIABLE, 0, 1);
+    for (uint32_t i = 0; i + 1 < LENGTH(levels); i++) {
+        const naldrev_run left = {i, 1}, right = {i + 1, 1};
+        const uint32_t runs[] = {i, 2};
+        const size_t expected = levels[i] == levels[i + 1];
+        naldrev_field first = empty, second = empty;
+        size_t compared = 2, equal = 2, starts = 2;
+        EXPECT(field_of(runs, 1) == NALDREV_OK && naldrev_store_take(&store, made, 1, &first) == NALDREV_OK);
+        EXPECT(naldrev_store_rest(&store, made, 1, &second) == NALDREV_OK);
+        EXPECT(naldrev_store_compare_runs(&store, left, right, &compared) == NALDREV_OK && compared == expected);
+        EXPECT(naldrev_store_equal(&store, first, second, &equal) == NALDREV_OK && equal == expected);
+        EXPECT(naldrev_store_starts_with(&store, first, second, &starts) == NALDREV_OK && starts == expected);
+        EXPECT(listed(made, 2) == (expected ? NALDREV_OK : NALDREV_NO_MATCH));
+    }
+}
+
+/* A copy has all five words, in the work buffer and behind the used terms. */
+static void try_copies(void)
+{
+    const uint32_t apart[] = {0, 1, 2, 1};
+    uint32_t work[2 * NALDREV_TERM_WIDTH], copy[2 * NALDREV_TERM_WIDTH];
+    naldrev_flat flat = {NULL, 0, 0, 0};
+    begin();
+    for (uint64_t i = 0; i < 3; i++)
+        add_unknown(UINT64_MAX - i);
+    memcpy(copy, terms, sizeof copy / 2);
+    memcpy(copy + NALDREV_TERM_WIDTH, terms + 2 * NALDREV_TERM_WIDTH, sizeof copy / 2);
+    EXPECT(field_of(apart, 2) == NALDREV_OK);
+    EXPECT(naldrev_store_flatten(&store, made, work, LENGTH(work), &flat) == NALDREV_OK && flat.in_work == 1);
+    EXPECT(memcmp(work, copy, sizeof copy) == 0);
+    set_record(0, NALDREV_E_VARIABLE, 0, 1);
+    EXPECT(listed(made, 1) == NALDREV_OK && store.terms_used == 5 && memcmp(terms + 3 * NALDREV_TERM_WIDTH, copy, sizeof copy) == 0);
+}
+
 int main(void)
 {
     try_store_limits();
@@ -299,9 +420,14 @@ int main(void)
     try_term_limits();
     try_pattern_limits();
     try_sheet_limits();
+    try_largest_sheet();
+    try_sheet_columns();
     try_numbers();
     try_widths();
     try_kinds();
     try_comparing();
+    try_fifth_word();
+    try_levels();
+    try_copies();
     return failures > 0;
 }

@@ -42,7 +42,7 @@ typedef struct job {
 } job;
 
 static const text *sheet; /* the input of the calls on sheets */
-static uint8_t out[NALDREV_ANSWER_BYTES];
+static uint8_t out[NALDREV_SHEET_BYTES]; /* of a sheet, or of an answer, which is shorter */
 static uint32_t words[NALDREV_MAX_TERMS * NALDREV_TERM_WIDTH];
 static size_t yes, written;
 static naldrev_field made;

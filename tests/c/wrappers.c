@@ -5,7 +5,8 @@
 #include <naldrev_store.h>
 #include <string.h>
 
-enum { TERMS = 8, TERM_ROOM = 11, NODE_ROOM = 6, SLOT_WORDS = 10, WORK_WORDS = 17, UNTOUCHED = 77, NUMBERS = NALDREV_BAD_SHEET + 1 };
+enum { TERMS = 8, TERM_ROOM = 11, NODE_ROOM = 6, SLOT_WORDS = 10, UNTOUCHED = 77, NUMBERS = NALDREV_BAD_SHEET + 1 };
+enum { WORK_WORDS = 4 * NALDREV_TERM_WIDTH + 1 };
 
 #define LENGTH(a) (sizeof(a) / sizeof((a)[0]))
 
@@ -44,8 +45,9 @@ static void place(world *w)
 static void make_start(void)
 {
     static const uint32_t words[TERMS * NALDREV_TERM_WIDTH] = {
-        NALDREV_CHAR,    'a', 0, 0, NALDREV_CHAR,    'b', 0, 0, NALDREV_CHAR,       'a', 0, 0, NALDREV_CHAR,   'b', 0, 0,
-        NALDREV_BRACKET, 0,   2, 1, NALDREV_BRACKET, 2,   2, 1, NALDREV_IDENTIFIER, 0,   1, 0, NALDREV_NUMBER, 2,   1, 0,
+        NALDREV_CHAR,       'a', 0, 0, 0, NALDREV_CHAR,    'b', 0, 0, 0, NALDREV_CHAR,    'a', 0, 0, 0,
+        NALDREV_CHAR,       'b', 0, 0, 0, NALDREV_BRACKET, 0,   2, 1, 0, NALDREV_BRACKET, 2,   2, 1, 0,
+        NALDREV_IDENTIFIER, 0,   1, 0, 0, NALDREV_NUMBER,  2,   1, 0, 0,
     };
     static const uint32_t runs[] = {0, 5, 4, 3};
     naldrev_field left = NALDREV_EMPTY_FIELD, right = NALDREV_EMPTY_FIELD, both = NALDREV_EMPTY_FIELD;
@@ -311,6 +313,23 @@ static void try_sheets(void)
     tried(read_numbers);
 }
 
+/* ---- unknowns ---- */
+
+static void try_unknowns(void)
+{
+    static const struct {
+        uint64_t level;
+        uint32_t lower, upper;
+    } rows[] = {{0, 0, 0}, {5, 5, 0}, {UINT32_MAX, UINT32_MAX, 0}, {4294967301, 5, 1}, {UINT64_MAX, UINT32_MAX, UINT32_MAX}};
+    for (size_t i = 0; i < LENGTH(rows); i++) {
+        const uint32_t words[] = {NALDREV_UNKNOWN, 2, rows[i].lower, 7, rows[i].upper};
+        uint32_t term[] = {UNTOUCHED, UNTOUCHED, UNTOUCHED, UNTOUCHED, UNTOUCHED};
+        naldrev_unknown_write(term, 2, rows[i].level, 7);
+        EXPECT(LENGTH(words) == NALDREV_TERM_WIDTH && memcmp(term, words, sizeof words) == 0);
+        EXPECT(naldrev_unknown_level(term) == rows[i].level);
+    }
+}
+
 /* ---- null pointers, the initialiser, the texts ---- */
 
 static void try_init(void)
@@ -396,6 +415,7 @@ int main(void)
     try_listings();
     try_again();
     try_sheets();
+    try_unknowns();
     try_init();
     try_nulls();
     try_texts();

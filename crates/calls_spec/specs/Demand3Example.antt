@@ -39,9 +39,9 @@ use Rattle.calls_spec.specs.Demand3Laws.{demand3}
 abbrev store : Store
 store = record {
   names = 49 ∷ 50 ∷ 48 ∷ 48 ∷ 55 ∷ [];
-  termWords = (0 ∷ 45 ∷ 0 ∷ 0 ∷ []) ++ (0 ∷ 45 ∷ 0 ∷ 0 ∷ [])
-      ++ (2 ∷ 4 ∷ 1 ∷ 0 ∷ []) ++ (2 ∷ 2 ∷ 3 ∷ 0 ∷ [])
-      ++ replicate 16 0;
+  termWords = (0 ∷ 45 ∷ 0 ∷ 0 ∷ 0 ∷ []) ++ (0 ∷ 45 ∷ 0 ∷ 0 ∷ 0 ∷ [])
+      ++ (2 ∷ 4 ∷ 1 ∷ 0 ∷ 0 ∷ []) ++ (2 ∷ 2 ∷ 3 ∷ 0 ∷ 0 ∷ [])
+      ++ replicate 20 0;
   termsUsed = 4;
   nodeWords = replicate 60 0;
   nodesUsed = 1;

@@ -39,7 +39,7 @@ abbrev pub exNames : List ℕ
 exNames = 49 ∷ 50 ∷ 88 ∷ 120 ∷ []
 
 abbrev pub exTerms : List ℕ
-exTerms = (0 ∷ 97 ∷ 0 ∷ 0 ∷ []) ++ (0 ∷ 98 ∷ 0 ∷ 0 ∷ []) ++ (1 ∷ 2 ∷ 1 ∷ 0 ∷ []) ++ (1 ∷ 3 ∷ 1 ∷ 0 ∷ []) ++ (3 ∷ 0 ∷ 2 ∷ 1 ∷ []) ++ (2 ∷ 0 ∷ 2 ∷ 0 ∷ [])
+exTerms = (0 ∷ 97 ∷ 0 ∷ 0 ∷ 0 ∷ []) ++ (0 ∷ 98 ∷ 0 ∷ 0 ∷ 0 ∷ []) ++ (1 ∷ 2 ∷ 1 ∷ 0 ∷ 0 ∷ []) ++ (1 ∷ 3 ∷ 1 ∷ 0 ∷ 0 ∷ []) ++ (3 ∷ 0 ∷ 2 ∷ 1 ∷ 0 ∷ []) ++ (2 ∷ 0 ∷ 2 ∷ 0 ∷ 0 ∷ [])
 
 abbrev pub exNodes : List ℕ
 exNodes = (0 ∷ 0 ∷ 0 ∷ 0 ∷ 0 ∷ 0 ∷ []) ++ (1 ∷ 0 ∷ 2 ∷ 0 ∷ 1 ∷ 2 ∷ []) ++ (1 ∷ 2 ∷ 2 ∷ 0 ∷ 1 ∷ 2 ∷ []) ++ (2 ∷ 1 ∷ 2 ∷ 2 ∷ 2 ∷ 4 ∷ [])
@@ -49,7 +49,7 @@ abbrev pub with : List ℕ → ℕ → List ℕ → ℕ → Store
 with ts used ns made = record { names = exNames; termWords = ts; termsUsed = used; nodeWords = ns; nodesUsed = made }
 
 abbrev pub ex : Store
-ex = with (exTerms ++ replicate 8 0) 6 (exNodes ++ replicate 12 0) 4
+ex = with (exTerms ++ replicate 10 0) 6 (exNodes ++ replicate 12 0) 4
 
 abbrev pub fd : ℕ → ℕ → Field
 fd n l = record { node = n; len = l }
@@ -102,7 +102,7 @@ lettered = record {
 abbrev pub doubled : Store
 doubled = record {
   names = [];
-  termWords = (0 ∷ 97 ∷ 0 ∷ 0 ∷ []) ++ (0 ∷ 98 ∷ 0 ∷ 0 ∷ []);
+  termWords = (0 ∷ 97 ∷ 0 ∷ 0 ∷ 0 ∷ []) ++ (0 ∷ 98 ∷ 0 ∷ 0 ∷ 0 ∷ []);
   termsUsed = 2;
   nodesUsed = 17;
   nodeWords = (0 ∷ 0 ∷ 0 ∷ 0 ∷ 0 ∷ 0 ∷ [])
@@ -128,20 +128,20 @@ abbrev pub worked : List Worked
 worked =
     -- from_runs: (0, 1) and (1, 1) fuse, (3, 0) is skipped; two Cons, the last run's first
     moved (callFromRuns (0 ∷ 1 ∷ 1 ∷ 1 ∷ 3 ∷ 0 ∷ 5 ∷ 1 ∷ [])) (built (fd 5 3))
-    (with (exTerms ++ replicate 8 0) 6 (exNodes ++ (1 ∷ 5 ∷ 1 ∷ 0 ∷ 1 ∷ 1 ∷ []) ++ (1 ∷ 0 ∷ 2 ∷ 4 ∷ 1 ∷ 3 ∷ [])) 6) []
+    (with (exTerms ++ replicate 10 0) 6 (exNodes ++ (1 ∷ 5 ∷ 1 ∷ 0 ∷ 1 ∷ 1 ∷ []) ++ (1 ∷ 0 ∷ 2 ∷ 4 ∷ 1 ∷ 3 ∷ [])) 6) []
     -- from_runs of nothing is the empty field
     ∷ same ex (callFromRuns (3 ∷ 0 ∷ [])) (built (fd 0 0)) [] []
     -- join: a Concat of the two
-    ∷ moved (callJoin (fd 1 2) (fd 2 2)) (built (fd 4 4)) (with (exTerms ++ replicate 8 0) 6 (exNodes ++ (2 ∷ 1 ∷ 2 ∷ 2 ∷ 2 ∷ 4 ∷ []) ++ replicate 6 0) 5) []
+    ∷ moved (callJoin (fd 1 2) (fd 2 2)) (built (fd 4 4)) (with (exTerms ++ replicate 10 0) 6 (exNodes ++ (2 ∷ 1 ∷ 2 ∷ 2 ∷ 2 ∷ 4 ∷ []) ++ replicate 6 0) 5) []
     -- an empty operand returns the other as it is
     ∷ same ex (callJoin (fd 3 0) (fd 3 1)) (built (fd 3 1)) [] []
     ∷ same ex (callTake (fd 3 4) 1) (built (fd 3 1)) [] []
     -- rest by 1: a shortened Cons, and a Concat over it
-    ∷ moved (callRest (fd 3 4) 1) (built (fd 5 3)) (with (exTerms ++ replicate 8 0) 6
+    ∷ moved (callRest (fd 3 4) 1) (built (fd 5 3)) (with (exTerms ++ replicate 10 0) 6
     (exNodes ++ (1 ∷ 1 ∷ 1 ∷ 0 ∷ 1 ∷ 1 ∷ []) ++ (2 ∷ 4 ∷ 1 ∷ 2 ∷ 2 ∷ 3 ∷ [])) 6) []
     -- rest by the whole node is node 0
     ∷ same ex (callRest (fd 1 2) 2) (built (fd 0 0)) [] []
-    ∷ moved (callRange (fd 3 4) 1 2) (built (fd 5 2)) (with (exTerms ++ replicate 8 0) 6
+    ∷ moved (callRange (fd 3 4) 1 2) (built (fd 5 2)) (with (exTerms ++ replicate 10 0) 6
     (exNodes ++ (1 ∷ 1 ∷ 1 ∷ 0 ∷ 1 ∷ 1 ∷ []) ++ (2 ∷ 4 ∷ 1 ∷ 2 ∷ 2 ∷ 3 ∷ [])) 6) []
     ∷ same ex (callStartsWith (fd 3 4) (fd 1 2)) (truth true) [] []
     ∷ same ex (callStartsWith (fd 1 2) (fd 3 4)) (truth false) [] []
@@ -151,7 +151,8 @@ worked =
     -- flatten: one run is shown in the store, a rope is copied to the work buffer
     ∷ same ex (callFlatten (fd 1 2) []) (inStore (rn 0 2)) [] []
     ∷ same ex (callFlatten (fd 3 0) []) (inStore (rn 0 0)) [] []
-    ∷ same ex (callFlatten (fd 3 3) (replicate 16 7)) (inWork 3) [] ((0 ∷ 97 ∷ 0 ∷ 0 ∷ []) ++ (0 ∷ 98 ∷ 0 ∷ 0 ∷ []) ++ (1 ∷ 2 ∷ 1 ∷ 0 ∷ []) ++ replicate 4 7)
+    ∷ same ex (callFlatten (fd 3 3) (replicate 20 7)) (inWork 3) []
+    ((0 ∷ 97 ∷ 0 ∷ 0 ∷ 0 ∷ []) ++ (0 ∷ 98 ∷ 0 ∷ 0 ∷ 0 ∷ []) ++ (1 ∷ 2 ∷ 1 ∷ 0 ∷ 0 ∷ []) ++ replicate 5 7)
     -- e.1 e.2 on a b: three candidates, the shortest e.1 first; the words after them stay
     ∷ same ex (match allOfThem (fd 1 2) twoExprs [] (replicate 14 9)) (listed 0 3 2) ((0 ∷ 0 ∷ 0 ∷ 2 ∷ 0 ∷ 1 ∷ 1 ∷ 1 ∷ 0 ∷ 2 ∷ 2 ∷ 0 ∷ 9 ∷ 9 ∷ [])) []
     -- first match: the head alone
@@ -160,13 +161,17 @@ worked =
     ∷ same ex (match allOfThem (fd 1 2) twoExprs (7 ∷ 0 ∷ 1 ∷ 0 ∷ 1 ∷ []) (replicate 4 9)) (listed 0 1 2) ((0 ∷ 1 ∷ 1 ∷ 1 ∷ [])) []
     -- a rope is settled: the copy goes after the used terms
     ∷ moved (match allOfThem (fd 3 2) (7 ∷ 0 ∷ 1 ∷ 0 ∷ []) [] (9 ∷ 9 ∷ [])) (listed 0 1 1)
-    (with (exTerms ++ (0 ∷ 97 ∷ 0 ∷ 0 ∷ []) ++ (0 ∷ 98 ∷ 0 ∷ 0 ∷ [])) 8 (exNodes ++ replicate 12 0) 4) (6 ∷ 2 ∷ [])
+    (with (exTerms ++ (0 ∷ 97 ∷ 0 ∷ 0 ∷ 0 ∷ []) ++ (0 ∷ 98 ∷ 0 ∷ 0 ∷ 0 ∷ [])) 8 (exNodes ++ replicate 12 0) 4) (6 ∷ 2 ∷ [])
     -- 1: a run list that is not whole; a term count past its slice; over 64 runs
     ∷ same ex (callFromRuns (0 ∷ 1 ∷ 2 ∷ [])) (refused 1) [] []
     ∷ same (with exTerms 7 exNodes 4) (callTake (fd 1 2) 1) (refused 1) [] []
     ∷ same ex (callFromRuns (replicate 130 0)) (refused 1) [] []
-    -- 2: a surrogate
-    ∷ same (with (0 ∷ 55296 ∷ 0 ∷ 0 ∷ []) 1 exNodes 1) (callTake (fd 0 0) 0) (refused 2) [] []
+    -- .. terms of four words; a work buffer of four
+    ∷ same (with (0 ∷ 97 ∷ 0 ∷ 0 ∷ []) 1 exNodes 1) (callTake (fd 0 0) 0) (refused 1) [] []
+    ∷ same ex (callFlatten (fd 3 3) (replicate 4 7)) (refused 1) [] (replicate 4 7)
+    -- 2: a surrogate; a Char with a fifth word
+    ∷ same (with (0 ∷ 55296 ∷ 0 ∷ 0 ∷ 0 ∷ []) 1 exNodes 1) (callTake (fd 0 0) 0) (refused 2) [] []
+    ∷ same (with (0 ∷ 97 ∷ 0 ∷ 0 ∷ 1 ∷ []) 1 exNodes 1) (callTake (fd 0 0) 0) (refused 2) [] []
     -- 3: no node 0; a Cons run past the used terms
     ∷ same (with exTerms 6 exNodes 0) (callFromRuns []) (refused 3) [] []
     ∷ same (with exTerms 3 exNodes 4) (callTake (fd 1 2) 1) (refused 3) [] []
@@ -187,7 +192,7 @@ worked =
     ∷ same lettered (match allOfThem (fd 0 0) (vars 5 22 ++ vars 6 22 ++ vars 7 21) [] []) (refused 9) [] []
     -- 10: keeps the settled copy
     ∷ moved (match allOfThem (fd 3 2) oneSymbol [] (9 ∷ 9 ∷ [])) (refused 10)
-    (with (exTerms ++ (0 ∷ 97 ∷ 0 ∷ 0 ∷ []) ++ (0 ∷ 98 ∷ 0 ∷ 0 ∷ [])) 8 (exNodes ++ replicate 12 0) 4) (9 ∷ 9 ∷ [])
+    (with (exTerms ++ (0 ∷ 97 ∷ 0 ∷ 0 ∷ 0 ∷ []) ++ (0 ∷ 98 ∷ 0 ∷ 0 ∷ 0 ∷ [])) 8 (exNodes ++ replicate 12 0) 4) (9 ∷ 9 ∷ [])
     -- 11: a Call reached
     ∷ same ex (match allOfThem (fd 1 2) aCall [] (9 ∷ 9 ∷ [])) (refused 11) (9 ∷ 9 ∷ []) []
     -- 12: no room for a node; none is written
@@ -195,7 +200,7 @@ worked =
     -- 13: no room for the settled copy
     ∷ same ex (match allOfThem (fd 3 3) oneSymbol [] (9 ∷ 9 ∷ [])) (refused 13) (9 ∷ 9 ∷ []) []
     -- 14: a work buffer too short
-    ∷ same ex (callFlatten (fd 3 3) (replicate 8 7)) (refused 14) [] (replicate 8 7)
+    ∷ same ex (callFlatten (fd 3 3) (replicate 10 7)) (refused 14) [] (replicate 10 7)
     -- 15: the slots that fit are filled, two of three; with none, the count is 0, for first match too
     ∷ same ex (match allOfThem (fd 1 2) twoExprs [] (replicate 9 9)) (listed 15 2 2) ((0 ∷ 0 ∷ 0 ∷ 2 ∷ 0 ∷ 1 ∷ 1 ∷ 1 ∷ 9 ∷ [])) []
     ∷ same ex (match headOnly (fd 1 2) twoExprs [] (9 ∷ 9 ∷ 9 ∷ [])) (listed 15 0 2) (9 ∷ 9 ∷ 9 ∷ []) []
@@ -204,10 +209,10 @@ worked =
     ∷ same ex (match allOfThem (fd 1 2) (3 ∷ 1 ∷ 0 ∷ 0 ∷ []) (7 ∷ 0 ∷ 1 ∷ 6 ∷ 1 ∷ []) []) (refused 5) [] []
     ∷ same ex (match allOfThem (fd 1 2) (3 ∷ 1 ∷ 0 ∷ 0 ∷ []) (4 ∷ 0 ∷ 1 ∷ 0 ∷ 0 ∷ []) []) (refused 7) [] []
     ∷ same ex (match allOfThem (fd 3 3) aCall [] []) (refused 13) [] []
-    ∷ same (with (0 ∷ 55296 ∷ 0 ∷ 0 ∷ []) 2 exNodes 1) (callTake (fd 0 0) 0) (refused 1) [] []
+    ∷ same (with (0 ∷ 55296 ∷ 0 ∷ 0 ∷ 0 ∷ []) 2 exNodes 1) (callTake (fd 0 0) 0) (refused 1) [] []
     -- .. a call's own slice that is not whole (1) before 2; 2 before 3; 5 before 6; in a listing 4 before 5, and 8 before 9
-    ∷ same (with (0 ∷ 55296 ∷ 0 ∷ 0 ∷ []) 1 exNodes 1) (callFromRuns (0 ∷ [])) (refused 1) [] []
-    ∷ same (with (0 ∷ 55296 ∷ 0 ∷ 0 ∷ []) 1 exNodes 0) (callTake (fd 0 0) 0) (refused 2) [] []
+    ∷ same (with (0 ∷ 55296 ∷ 0 ∷ 0 ∷ 0 ∷ []) 1 exNodes 1) (callFromRuns (0 ∷ [])) (refused 1) [] []
+    ∷ same (with (0 ∷ 55296 ∷ 0 ∷ 0 ∷ 0 ∷ []) 1 exNodes 0) (callTake (fd 0 0) 0) (refused 2) [] []
     ∷ same ex (callFromRuns (0 ∷ 65536 ∷ 0 ∷ 1 ∷ [])) (refused 5) [] []
     ∷ same ex (match allOfThem (fd 4 0) oneSymbol (7 ∷ 0 ∷ 1 ∷ 6 ∷ 1 ∷ []) []) (refused 4) [] []
     ∷ same lettered (match allOfThem (fd 0 0) (vars 5 22 ++ vars 6 22 ++ vars 7 21) (4 ∷ 0 ∷ 1 ∷ 0 ∷ 0 ∷ []) []) (refused 8) [] []

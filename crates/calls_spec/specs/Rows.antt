@@ -41,23 +41,26 @@ rowNames = 49 ∷ 50 ∷ 88 ∷ 120 ∷ 65 ∷ 48 ∷ 48 ∷ 55 ∷ []
 
 abbrev pub rowTerms : List ℕ
 rowTerms =
-    (0 ∷ 97 ∷ 0 ∷ 0 ∷ [])  -- 0: a
-    ++ (0 ∷ 97 ∷ 0 ∷ 0 ∷ [])  -- 1: a
-    ++ (0 ∷ 97 ∷ 0 ∷ 0 ∷ [])  -- 2: a
-    ++ (0 ∷ 98 ∷ 0 ∷ 0 ∷ [])  -- 3: b
-    ++ (0 ∷ 45 ∷ 0 ∷ 0 ∷ [])  -- 4: -
-    ++ (0 ∷ 45 ∷ 0 ∷ 0 ∷ [])  -- 5: -
-    ++ (3 ∷ 0 ∷ 1 ∷ 1 ∷ [])  -- 6: (a)
-    ++ (3 ∷ 0 ∷ 0 ∷ 1 ∷ [])  -- 7: ()
-    ++ (0 ∷ 121 ∷ 0 ∷ 0 ∷ [])  -- 8: y
-    ++ (4 ∷ 0 ∷ 0 ∷ 1 ∷ [])  -- 9: a symbol unknown
-    ++ (4 ∷ 1 ∷ 0 ∷ 1 ∷ [])  -- 10: a term unknown
-    ++ (4 ∷ 2 ∷ 0 ∷ 1 ∷ [])  -- 11: an expression unknown
-    ++ (2 ∷ 5 ∷ 3 ∷ 0 ∷ [])  -- 12: the number 007
-    ++ (2 ∷ 7 ∷ 1 ∷ 0 ∷ [])  -- 13: the number 7
+    (0 ∷ 97 ∷ 0 ∷ 0 ∷ 0 ∷ [])  -- 0: a
+    ++ (0 ∷ 97 ∷ 0 ∷ 0 ∷ 0 ∷ [])  -- 1: a
+    ++ (0 ∷ 97 ∷ 0 ∷ 0 ∷ 0 ∷ [])  -- 2: a
+    ++ (0 ∷ 98 ∷ 0 ∷ 0 ∷ 0 ∷ [])  -- 3: b
+    ++ (0 ∷ 45 ∷ 0 ∷ 0 ∷ 0 ∷ [])  -- 4: -
+    ++ (0 ∷ 45 ∷ 0 ∷ 0 ∷ 0 ∷ [])  -- 5: -
+    ++ (3 ∷ 0 ∷ 1 ∷ 1 ∷ 0 ∷ [])  -- 6: (a)
+    ++ (3 ∷ 0 ∷ 0 ∷ 1 ∷ 0 ∷ [])  -- 7: ()
+    ++ (0 ∷ 121 ∷ 0 ∷ 0 ∷ 0 ∷ [])  -- 8: y
+    ++ (4 ∷ 0 ∷ 0 ∷ 1 ∷ 0 ∷ [])  -- 9: a symbol unknown
+    ++ (4 ∷ 1 ∷ 0 ∷ 1 ∷ 0 ∷ [])  -- 10: a term unknown
+    ++ (4 ∷ 2 ∷ 0 ∷ 1 ∷ 0 ∷ [])  -- 11: an expression unknown
+    ++ (2 ∷ 5 ∷ 3 ∷ 0 ∷ 0 ∷ [])  -- 12: the number 007
+    ++ (2 ∷ 7 ∷ 1 ∷ 0 ∷ 0 ∷ [])  -- 13: the number 7
+    ++ (4 ∷ 0 ∷ 5 ∷ 1 ∷ 0 ∷ [])  -- 14: a symbol unknown of level 5
+    ++ (4 ∷ 0 ∷ 5 ∷ 1 ∷ 1 ∷ [])  -- 15: one of level 4,294,967,301
+    ++ (4 ∷ 0 ∷ 5 ∷ 1 ∷ 1 ∷ [])  -- 16: the same
 
 abbrev pub rowStore : Store
-rowStore = record { names = rowNames; termWords = rowTerms; termsUsed = 14; nodeWords = replicate 24 0; nodesUsed = 1 }
+rowStore = record { names = rowNames; termWords = rowTerms; termsUsed = 17; nodeWords = replicate 24 0; nodesUsed = 1 }
 
 -- Pattern records.
 abbrev pub symbolVar : ℕ → List ℕ
@@ -102,10 +105,13 @@ trials =
     ∷ trial (termVar 0) (6 ∷ 1 ∷ []) 0 (((bracketed (char 97 ∷ []) ∷ []) ∷ []) ∷ [])
     -- s.1 on a term unknown, and on a symbol unknown
     ∷ trial (symbolVar 0) (10 ∷ 1 ∷ []) 10 []
-    ∷ trial (symbolVar 0) (9 ∷ 1 ∷ []) 0 (((unknown 0 0 1 ∷ []) ∷ []) ∷ [])
+    ∷ trial (symbolVar 0) (9 ∷ 1 ∷ []) 0 (((unknown 0 0 0 1 ∷ []) ∷ []) ∷ [])
     -- t.1 and e.1 on an expression unknown
     ∷ trial (termVar 0) (11 ∷ 1 ∷ []) 10 []
-    ∷ trial (exprVar 0) (11 ∷ 1 ∷ []) 0 (((unknown 2 0 1 ∷ []) ∷ []) ∷ [])
+    ∷ trial (exprVar 0) (11 ∷ 1 ∷ []) 0 (((unknown 2 0 0 1 ∷ []) ∷ []) ∷ [])
+    -- s.1 s.1 on unknowns of one level, and of two levels with the same lower half
+    ∷ trial (symbolVar 0 ++ symbolVar 0) (15 ∷ 2 ∷ []) 0 (((unknown 0 5 1 1 ∷ []) ∷ []) ∷ [])
+    ∷ trial (symbolVar 0 ++ symbolVar 0) (14 ∷ 2 ∷ []) 10 []
     -- the number 7 on 007: 10 by document 01, a match since numbers compare as numbers (02: 2.9)
     ∷ trial (2 ∷ 7 ∷ 1 ∷ 0 ∷ []) (12 ∷ 1 ∷ []) 0 ([] ∷ [])
     -- s.1 s.1 on 007 7: the first occurrence gives the entry, with the spelling received

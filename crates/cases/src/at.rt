@@ -1,9 +1,18 @@
 // What the program keeps: names and words that are lent, and a state of numbers, each at its place.
 pub type Names = [u8; 65600];
 
-pub type Have = [u32; 6348];
+// The words of the terms, of the work buffer and of what is shown, of all regions, and of one clause.
+pub const TERM_WORDS: usize = 1028 * words::TERM_WIDTH;
 
-pub type Row = [u32; 4200];
+pub const WORK_WORDS: usize = 16 * words::TERM_WIDTH;
+
+pub const ALL_WORDS: usize = 7408;
+
+pub const ROW_WORDS: usize = 5200;
+
+pub type Have = [u32; ALL_WORDS];
+
+pub type Row = [u32; ROW_WORDS];
 
 pub type State = [usize; 64];
 

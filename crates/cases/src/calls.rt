@@ -89,7 +89,7 @@ fn right(state: &State) -> Field {
 
 // ---- what was lent from a copy comes back ----
 
-fn put_terms(have: &mut Have, terms: &[u32; 4112]) {
+fn put_terms(have: &mut Have, terms: &[u32; at::TERM_WORDS]) {
     copy(have, store::base(at::TERMS), terms);
 }
 
@@ -101,11 +101,11 @@ fn put_slots(have: &mut Have, slots: &[u32; 128]) {
     copy(have, store::base(at::SLOTS), slots);
 }
 
-fn put_work(have: &mut Have, work: &[u32; 64]) {
+fn put_work(have: &mut Have, work: &[u32; at::WORK_WORDS]) {
     copy(have, store::base(at::WORK), work);
 }
 
-fn put_shown(have: &mut Have, shown: &[u32; 64]) {
+fn put_shown(have: &mut Have, shown: &[u32; at::WORK_WORDS]) {
     copy(have, store::base(at::SHOWN), shown);
 }
 
@@ -203,10 +203,10 @@ fn flat_on(names: &[u8], have: &Have, f: Field, work: &mut [u32], state: &State)
 // flatten into a work buffer of its own, which comes back, and what flat_part shows.
 fn flatten(names: &[u8], have: &mut Have, f: Field, state: &mut State) {
     let n = state[at::LENT + at::WORK];
-    if 64 < n {
+    if at::WORK_WORDS < n {
         return;
     }
-    let mut work = [777u32; 64];
+    let mut work = [777u32; at::WORK_WORDS];
     let flat = flat_on(names, have, f, &mut work[0..n], state);
     put_work(have, &work);
     placed(state, flat);
@@ -214,8 +214,8 @@ fn flatten(names: &[u8], have: &mut Have, f: Field, state: &mut State) {
 }
 
 // What flat_part shows of the terms and a work buffer.
-fn show(have: &mut Have, work: &[u32; 64], n: usize, flat: Flat, state: &State) {
-    let mut shown = [777u32; 64];
+fn show(have: &mut Have, work: &[u32; at::WORK_WORDS], n: usize, flat: Flat, state: &State) {
+    let mut shown = [777u32; at::WORK_WORDS];
     copy(
         &mut shown,
         0,
@@ -224,21 +224,22 @@ fn show(have: &mut Have, work: &[u32; 64], n: usize, flat: Flat, state: &State) 
     put_shown(have, &shown);
 }
 
-// flat_part of an answer that did not come of its slices; the work buffer has 8 words.
+// flat_part of an answer that did not come of its slices; the work buffer has two terms' words.
 fn flat_part(have: &mut Have, state: &mut State) {
     let stored = Run {
         start: state[at::VALUES + 1],
         len: state[at::VALUES + 2],
     };
-    let work = [9u32; 64];
+    let work = [9u32; at::WORK_WORDS];
+    let lent = 2 * words::TERM_WIDTH;
     answer(state, at::OK, 0, 0);
     let kind = state[at::VALUES];
     if kind == at::STORE {
-        show(have, &work, 8, Flat::InStore(stored), state);
+        show(have, &work, lent, Flat::InStore(stored), state);
     } else if kind == at::WORK {
-        show(have, &work, 8, Flat::InWork(stored.start), state);
+        show(have, &work, lent, Flat::InWork(stored.start), state);
     } else {
-        show(have, &work, 8, Flat::Refused(stored.start), state);
+        show(have, &work, lent, Flat::Refused(stored.start), state);
     }
 }
 
@@ -320,13 +321,13 @@ fn list_on(
 fn lists(call: usize, names: &[u8], have: &mut Have, state: &mut State) {
     let t = state[at::LENT + at::TERMS];
     let s = state[at::LENT + at::SLOTS];
-    if 4112 < t {
+    if at::TERM_WORDS < t {
         return;
     }
     if 128 < s {
         return;
     }
-    let mut terms = [0u32; 4112];
+    let mut terms = [0u32; at::TERM_WORDS];
     copy(&mut terms, 0, store::whole(have, at::TERMS));
     let mut slots = [777u32; 128];
     let mut used = state[at::USED + at::TERMS];

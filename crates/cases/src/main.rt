@@ -66,9 +66,9 @@ fn run(
 
 fn main() {
     let mut names = [97u8; 65600];
-    let mut have = [777u32; 6348];
-    let mut want = [777u32; 6348];
-    let mut row = [0u32; 4200];
+    let mut have = [777u32; at::ALL_WORDS];
+    let mut want = [777u32; at::ALL_WORDS];
+    let mut row = [0u32; at::ROW_WORDS];
     let mut state = [0usize; 64];
     let files = os::arg_count();
     let mut i = 1;

@@ -24,7 +24,7 @@ pub fn least(a: usize, b: usize) -> usize
 // One more value. There is none before the first verb.
 fn push(x: usize, row: &mut Row, state: &mut State) {
     let n = state[at::FILLED];
-    if 4199 < n {
+    if at::ROW_WORDS <= n {
         state[at::BAD] = 1;
         return;
     }
@@ -46,8 +46,8 @@ fn push(x: usize, row: &mut Row, state: &mut State) {
 
 // One word more of a record that is not full.
 fn pad_one(row: &mut Row, state: &mut State) {
-    let open = least(state[at::OPEN], 4201);
-    let filled = least(state[at::FILLED], 4201);
+    let open = least(state[at::OPEN], at::ROW_WORDS + 1);
+    let filled = least(state[at::FILLED], at::ROW_WORDS + 1);
     let width = least(state[at::WIDTH], 6);
     if 0 < open && filled + 1 < open + width {
         push(0, row, state);
@@ -67,7 +67,7 @@ pub fn pad(row: &mut Row, state: &mut State) {
 // A record begins with its kind.
 fn begin(kind: usize, row: &mut Row, state: &mut State) {
     pad(row, state);
-    state[at::OPEN] = least(state[at::FILLED], 4200) + 1;
+    state[at::OPEN] = least(state[at::FILLED], at::ROW_WORDS) + 1;
     push(kind, row, state);
 }
 

@@ -11,17 +11,17 @@ ghost use lib.ListN.{length};
 
 // Where a region starts.
 pub fn base(region: usize) -> usize
-    ensures { λ r. ⌜ r ≤ 6348 ⌝ }
+    ensures { λ r. ⌜ r ≤ 7408 ⌝ }
 {
     match region {
         0 => 0,
-        1 => 4112,
-        2 => 4712,
-        3 => 5752,
-        4 => 6092,
-        5 => 6220,
-        6 => 6284,
-        _ => 6348,
+        1 => at::TERM_WORDS,
+        2 => 5740,
+        3 => 6780,
+        4 => 7120,
+        5 => 7248,
+        6 => 7328,
+        _ => at::ALL_WORDS,
     }
 }
 
@@ -30,13 +30,13 @@ pub fn size(region: usize) -> usize
     ensures { λ r. ⌜ r ≤ 65600 ⌝ }
 {
     match region {
-        0 => 4112,
+        0 => at::TERM_WORDS,
         1 => 600,
         2 => 1040,
         3 => 340,
         4 => 128,
-        5 => 64,
-        6 => 64,
+        5 => at::WORK_WORDS,
+        6 => at::WORK_WORDS,
         _ => 65600,
     }
 }
@@ -46,7 +46,8 @@ pub fn width(region: usize) -> usize
     ensures { λ r. ⌜ (1 ≤ r) × (r ≤ 6) ⌝ }
 {
     match region {
-        0 | 2 | 5 | 6 => 4,
+        0 | 5 | 6 => words::TERM_WIDTH,
+        2 => 4,
         1 => 6,
         3 => 5,
         _ => 1,
@@ -59,7 +60,8 @@ fn words_of(region: usize, n: usize) -> usize
     ensures { λ r. ⌜ r ≤ 400000 ⌝ }
 {
     match region {
-        0 | 2 | 5 | 6 => n * 4,
+        0 | 5 | 6 => n * words::TERM_WIDTH,
+        2 => n * 4,
         1 => n * 6,
         3 => n * 5,
         _ => n,
@@ -70,7 +72,8 @@ fn records_of(region: usize, n: usize) -> usize
     ensures { λ r. ⌜ r ≤ n ⌝ }
 {
     match region {
-        0 | 2 | 5 | 6 => n / 4,
+        0 | 5 | 6 => n / words::TERM_WIDTH,
+        2 => n / 4,
         1 => n / 6,
         3 => n / 5,
         _ => n,
@@ -132,7 +135,7 @@ fn bad(state: &mut State) {
 fn fill(from: usize, region: usize, have: &mut Have, row: &Row, state: &mut State)
     requires { ⌜ (from ≤ 65600) × (region ≤ 6) ⌝ }
 {
-    let filled = least(state[at::FILLED], 4200);
+    let filled = least(state[at::FILLED], at::ROW_WORDS);
     if filled == 0 {
         return;
     }
@@ -150,7 +153,7 @@ fn fill(from: usize, region: usize, have: &mut Have, row: &Row, state: &mut Stat
 fn set(region: usize, have: &mut Have, row: &Row, state: &mut State)
     requires { ⌜ region ≤ 6 ⌝ }
 {
-    let clear = [777u32; 4112];
+    let clear = [777u32; at::TERM_WORDS];
     copy(have, base(region), part(&clear, 0, size(region)));
     fill(0, region, have, row, state);
 }
@@ -240,10 +243,10 @@ pub fn change(verb: usize, have: &mut Have, row: &Row, state: &mut State) {
 pub fn write(want: &mut Have, row: &Row, state: &mut State) {
     let region = least(state[at::VALUES], 6);
     let used = least(state[at::WANTED + region], 65600);
-    let filled = least(state[at::FILLED], 4200);
+    let filled = least(state[at::FILLED], at::ROW_WORDS);
     if well_formed(vocabulary::WRITES, state) && 0 < filled {
         let n = part(row, 1, filled).len();
-        written(region, used, least(n, 4200), want, row, state);
+        written(region, used, least(n, at::ROW_WORDS), want, row, state);
         return;
     }
     bad(state);
@@ -251,7 +254,7 @@ pub fn write(want: &mut Have, row: &Row, state: &mut State) {
 
 // n words of the row go after so many used records of the region.
 fn written(region: usize, used: usize, n: usize, want: &mut Have, row: &Row, state: &mut State)
-    requires { ⌜ (region ≤ 6) × (used ≤ 65600) × (n ≤ 4200) ⌝ }
+    requires { ⌜ (region ≤ 6) × (used ≤ 65600) × (n ≤ 5200) ⌝ }
 {
     let from = words_of(region, used);
     let records = records_of(region, n);
@@ -265,7 +268,7 @@ fn written(region: usize, used: usize, n: usize, want: &mut Have, row: &Row, sta
 
 // Before a call nothing is written to slots, work buffer and what is shown, and it must leave what there is.
 pub fn prepare(have: &mut Have, want: &mut Have, state: &mut State) {
-    copy(have, base(at::SLOTS), &[777u32; 256]);
+    copy(have, base(at::SLOTS), &[777u32; 288]);
     *want = *have;
     state[at::WANTED + at::TERMS] = state[at::USED + at::TERMS];
     state[at::WANTED + at::NODES] = state[at::USED + at::NODES];

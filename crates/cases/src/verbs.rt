@@ -30,7 +30,7 @@ pub fn begin_clause(t: &[u8], row: &mut Row, state: &mut State) {
 // The first word in which two arrays differ, or their length.
 fn first_difference(have: &Have, want: &Have) -> usize {
     let mut i = 0;
-    while i < 6348 {
+    while i < at::ALL_WORDS {
         if have[i] != want[i] {
             return i;
         }
@@ -45,7 +45,7 @@ fn compare(have: &Have, want: &Have, state: &mut State) {
         tell::unnamed(state);
     }
     let p = first_difference(have, want);
-    if p < 6348 {
+    if p < at::ALL_WORDS {
         let came = words::word(have, p);
         let expected = words::word(want, p);
         tell::word(state, p, came, expected);

@@ -57,8 +57,8 @@ pub fn most(verb: usize, region: usize) -> usize {
     match verb {
         2 | 3 => 2,
         4 => if region < 7 { 3 } else { 0 },
-        0 => if region < 7 { 4200 } else { 1 },
-        _ => if region < 7 { 4200 } else { 0 },
+        0 => if region < 7 { at::ROW_WORDS } else { 1 },
+        _ => if region < 7 { at::ROW_WORDS } else { 0 },
     }
 }
 

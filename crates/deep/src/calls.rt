@@ -46,10 +46,13 @@ fn sum(words: &[u32], a: usize, e: usize) -> usize {
     total(&words[a..e])
 }
 
-fn letters() -> [u32; 16]
-    ensures { λ r. ⌜ 16 ≡ length r ⌝ }
+// The words of the terms abcd.
+const LETTERS: usize = 4 * words::TERM_WIDTH;
+
+fn letters() -> [u32; LETTERS]
+    ensures { λ r. ⌜ 20 ≡ length r ⌝ }
 {
-    let mut terms = [0u32; 16];
+    let mut terms = [0u32; LETTERS];
     put_letters(&mut terms);
     terms
 }
@@ -160,7 +163,7 @@ pub fn first(nodes: &[u32], terms: &mut [u32], line: &mut Line) {
         &[0u32; 0],
         &mut slots,
     );
-    let held = sum(terms, 0, least(used, 65536) * 4);
+    let held = sum(terms, 0, least(used, 65536) * words::TERM_WIDTH);
     let start = wide(slots[0]);
     let len = wide(slots[1]);
     match m {
@@ -175,7 +178,15 @@ pub fn compare(terms: &[u32], line: &mut Line) {
     let s = 1270 + least(line[1], 5);
     let p = 1270 + least(line[2], 5);
     let n = line[3];
-    match equality::compare_runs(b"", first_words(terms, 5100), 1275, s, n, p, n) {
+    match equality::compare_runs(
+        b"",
+        first_words(terms, 1275 * words::TERM_WIDTH),
+        1275,
+        s,
+        n,
+        p,
+        n,
+    ) {
         Compared::Equal => answer(line, 3, 0, 0, 0, 0),
         Compared::Different => answer(line, 4, 0, 0, 0, 0),
         Compared::Refused(m) => answer(line, 2, m, 0, 0, 0),

@@ -180,8 +180,11 @@ fn all_lines(text: &[u8], nodes: &mut [u32], words: &mut [u32], line: &mut Line)
     }
 }
 
+// The words of the terms that a line settles or flattens: 16,384 of them.
+const TERM_ROOM: usize = 16384 * words::TERM_WIDTH;
+
 // A file that cannot be opened has no cases, and none is printed.
-fn file(nodes: &mut [u32; 393222], words: &mut [u32; 65536], line: &mut Line) {
+fn file(nodes: &mut [u32; 393222], words: &mut [u32; TERM_ROOM], line: &mut Line) {
     let mut path = io::buffer();
     let n = os::arg(1, &mut path);
     let fd = os::open_read(&path[..n]);
@@ -200,9 +203,9 @@ fn file(nodes: &mut [u32; 393222], words: &mut [u32; 65536], line: &mut Line) {
 
 // The answer to the sheet, `t.1 t.1` on two terms that share their contents (examples/shared.sheet), as the program `sheet` prints it.
 fn answer_sheet() {
-    let mut text = [0u8; 38251];
+    let mut text = [0u8; sheet_job::LONGEST_SHEET + 1];
     let n = io::read_full(0, &mut text);
-    let mut out = [0u8; 42025];
+    let mut out = [0u8; sheet_job::LONGEST_ANSWER];
     match sheet_job::run_sheet(&text[..n], &mut out) {
         Written::Bytes(k) => write(lines::first(&out, k)),
         Written::Refused(_) => {}
@@ -211,7 +214,7 @@ fn answer_sheet() {
 
 fn main() {
     let mut nodes = [0u32; 393222];
-    let mut words = [0u32; 65536];
+    let mut words = [0u32; TERM_ROOM];
     let mut line = [0usize; 32];
     file(&mut nodes, &mut words, &mut line);
     answer_sheet();

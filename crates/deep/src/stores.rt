@@ -14,10 +14,12 @@ fn set(words: &mut [u32], p: usize, x: usize) {
 fn put_term(terms: &mut [u32], i: usize, t: Term)
     requires { ⌜ i ≤ 65536 ⌝ }
 {
-    set(terms, i * 4, t.kind);
-    set(terms, i * 4 + 1, t.a);
-    set(terms, i * 4 + 2, t.b);
-    set(terms, i * 4 + 3, t.c);
+    let p = i * words::TERM_WIDTH;
+    set(terms, p, t.kind);
+    set(terms, p + 1, t.a);
+    set(terms, p + 2, t.b);
+    set(terms, p + 3, t.c);
+    set(terms, p + 4, t.d);
 }
 
 fn put_node(nodes: &mut [u32], i: usize, n: Node)
@@ -37,6 +39,7 @@ fn letter(a: usize) -> Term {
         a,
         b: 0,
         c: 0,
+        d: 0,
     }
 }
 
@@ -148,6 +151,7 @@ fn shared(crossed: bool, same: usize, i: usize) -> Term
         a: (level - 1) * 5 + from(crossed, at),
         b: 2,
         c: level,
+        d: 0,
     }
 }
 

@@ -1,13 +1,14 @@
 -- Laws of two terms that were read and of two runs, whatever number of used terms a store within its rules has them in.
 use mathlib.Core.Path.{_≡_, sym, _∙_}
 use mathlib.Core.List.{List}
-use mathlib.Core.Bool.{Bool, false, _&&_}
+use mathlib.Core.Bool.{Bool, true, false, _&&_}
 use Prim.Native.Nat.{ℕ, suc, _+_, _<_}
 use native.Mathlib.Omega.{arith}
 use Rattle.term_spec.specs.Words.{recordAt}
-use Rattle.term_spec.specs.Term.{Term, Run, termLayout, bracketKind, contentsRun}
+use Rattle.term_spec.specs.Term.{Term, Run, termLayout, charKind, bracketKind, contentsRun}
 use Rattle.value.specs.Equal.{Texts, equalSymbols, equalAt}
-use Rattle.value.specs.EqualLaws.{depthAt, deepestIn, texts-at, contents-below, contents-shallow, at-differ, at-symbols, at-brackets, runsFrom, runs-more}
+use Rattle.value.specs.EqualLaws.{depthAt, deepestIn, texts-at, symbols-apart, symbols-chars, contents-below, contents-shallow, at-differ, at-symbols}
+use Rattle.value.specs.EqualLaws.{at-brackets, runsFrom, runs-more}
 use Rattle.equality.specs.Known.{TermsIn, RunsIn, sameRuns}
 
 -- ---- two terms that were read ----
@@ -28,6 +29,17 @@ module _ {names w : List ℕ} {i j : ℕ} {t u : Term} {used : ℕ} (two : Two n
   pub two-symbols : t .kind ≡ u .kind → (t .kind ≡ bracketKind → ⊥) → equalSymbols names t u ≡ equalAt names w used i j
   two-symbols s n =
       at-symbols names w used (two .inside .store) i j t u (two .inside .first) (two .inside .second) (two .left) (two .right) s n
+
+  -- two Chars: equal by their first words
+  module _ (z : t .kind ≡ charKind) (s : t .kind ≡ u .kind) where
+    two-alone : equalSymbols names t u ≡ equalAt names w used i j
+    two-alone = two-symbols s (λ q. omega arith)
+
+    pub two-chars : t .a ≡ u .a → equalAt names w used i j ≡ true
+    two-chars e = sym (symbols-chars names t u s (λ q. omega arith) (λ q. omega arith) (λ q. omega arith) z e ∙ two-alone)
+
+    pub two-chars-apart : (t .a ≡ u .a → ⊥) → equalAt names w used i j ≡ false
+    two-chars-apart n = sym (symbols-apart names t u s (λ q. omega arith) (λ q. omega arith) (λ q. omega arith) n ∙ two-alone)
 
   -- two brackets: equal if their contents are, which lie below them and are less deep
   module _ (b : t .kind ≡ bracketKind) (s : t .kind ≡ u .kind) where

@@ -34,6 +34,13 @@ fn equal_terms_within(names: &[u8], terms: &[u32], i: usize, j: usize, budget: u
     if t.kind != u.kind {
         return Outcome::Different;
     }
+    // Chars are the most frequent terms. Seen to first, their words after the first need not be read.
+    if t.kind == words::CHAR {
+        if t.a != u.a {
+            return Outcome::Different;
+        }
+        return Outcome::Equal(budget);
+    }
     if t.kind == words::BRACKET {
         let first = Run {
             start: t.a,

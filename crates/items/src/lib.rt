@@ -1,9 +1,11 @@
 // Records of patterns and bindings in lent slices, as structs by value.
+use words::Term;
 ghost use mathlib.Core.Path.{_≡_};
 ghost use Prim.Native.Nat.{_+_};
 ghost use Rattle.term_spec.specs.Words.{Lies, recordAt};
 ghost use Rattle.match_spec.specs.Pattern.{itemLayout, bindingLayout};
-ghost use Rattle.items.specs.Records.{asItem, asBinding};
+ghost use Rattle.words.specs.Records.{asTerm};
+ghost use Rattle.items.specs.Records.{asItem, termOfItem, asBinding};
 
 // One record of a pattern, its words widened.
 pub struct Item {
@@ -60,6 +62,19 @@ pub fn get_item(pattern: &[u32], i: usize) -> Item
         a: words::word(pattern, p + 1),
         b: words::word(pattern, p + 2),
         c: words::word(pattern, p + 3),
+    }
+}
+
+// A literal of a pattern as a term.
+pub fn literal(t: Item) -> Term
+    ensures { λ r. ⌜ asTerm r ≡ termOfItem (asItem t) ⌝ }
+{
+    Term {
+        kind: t.kind,
+        a: t.a,
+        b: t.b,
+        c: t.c,
+        d: 0,
     }
 }
 

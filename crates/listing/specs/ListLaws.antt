@@ -181,7 +181,9 @@ module _ (s : Store) (m : Request) (entries : ℕ) (numbers : List ℕ) (run : R
 
   room-terms : (used ≤ limit) × Lies termLayout (s .termWords) used
   unfolding capacity count
-  room-terms = let h : s .termsUsed + length (fieldCopy s (m .field)) ≤ min (length (s .termWords) / 4) limit = leb-true _ _ (o .fits) in (omega (arith, o .used-is), omega (arith, o .used-is))
+  room-terms =
+      let h : s .termsUsed + length (fieldCopy s (m .field)) ≤ min (length (s .termWords) / termLayout .width) limit = leb-true _ _ (o .fits) in
+      (omega (arith, o .used-is), omega (arith, o .used-is))
 
   words-size : length words ≡ length (s .termWords)
   words-size = ap length (o .words-are) ∙ write-length termLayout term-lays (s .termWords) (s .termsUsed) (fieldCopy s (m .field)) (omega (arith, room-terms .1, o .used-is))

@@ -98,7 +98,7 @@ abbrev rn : ℕ → ℕ → Run
 rn s l = record { start = s; len = l }
 
 abbrev tm : ℕ → ℕ → ℕ → ℕ → Term
-tm kind a b c = record { kind = kind; a = a; b = b; c = c }
+tm kind a b c = record { kind = kind; a = a; b = b; c = c; d = 0 }
 
 -- The Chars a, a, b and the bracket (a b).
 abbrev store : List Term

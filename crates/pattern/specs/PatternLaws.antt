@@ -13,10 +13,11 @@ use native.Mathlib.Omega.{arith}
 use Rattle.term_spec.specs.Words.{recordAt, records, count}
 use Rattle.term_spec.specs.WordsLaws.{decode-at, record-next, records-done}
 use Rattle.term_spec.specs.Text.{textRule}
-use Rattle.term_spec.specs.Term.{symbolRule}
+use Rattle.term_spec.specs.Term.{Term, symbolRule}
 use Rattle.text.specs.Texts.{nameText, spelling}
 use Rattle.match_spec.specs.Pattern.{openKind, closeKind, symbolVariableKind, termVariableKind, expressionVariableKind, callKind, blockKind, nestingLimit}
 use Rattle.match_spec.specs.Pattern.{Item, noItem, itemLayout, itemRuleK, closeRule, nestRuleK, noneOpen, itemsRule, patternRule}
+use Rattle.items.specs.Records.{termOfItem}
 use Rattle.pattern.specs.Records.{itemsIn, variable}
 
 -- ---- a record by itself ----
@@ -42,12 +43,17 @@ variable-kind k lo hi = go (ℕ-discrete k symbolVariableKind) (ℕ-discrete k t
     go (no n) (no m) = e-kind (omega arith)
 
 module _ (names : List ℕ) (t : Item) where
-  pub item-symbol : (k : ℕ) → k < openKind → symbolRule k names (t .a) (t .b) (t .c) ≡ itemRuleK k names t
+  item-symbol : (k : ℕ) → k < openKind → symbolRule k names (t .a) (t .b) (t .c) ≡ itemRuleK k names t
   unfolding itemRuleK
   item-symbol zero h = refl
   item-symbol (suc zero) h = refl
   item-symbol (suc (suc zero)) h = refl
   item-symbol (suc (suc (suc k))) h = absurd (omega arith)
+
+  -- A literal has the rule of the term l that it is.
+  pub item-literal : (l : Term) {b : Bool} → b ≡ symbolRule (l .kind) names (l .a) (l .b) (l .c) → l ≡ termOfItem t → t .kind < openKind
+      → b ≡ itemRuleK (t .kind) names t
+  item-literal l q e h = q ∙ ap (λ z. symbolRule (z .kind) names (z .a) (z .b) (z .c)) e ∙ item-symbol (t .kind) h
 
   pub item-bracket : (k : ℕ) → openKind ≤ k → k < symbolVariableKind → {z : Bool} → eqb (t .b) 0 ≡ z → itemRuleK k names t ≡ z && eqb (t .c) 0
   unfolding itemRuleK

@@ -2,7 +2,6 @@
 // `Bindings`); records and their rules are the port's.
 use items::Binding;
 use items::Item;
-use words::Term;
 ghost use mathlib.Core.Path.{_≡_};
 ghost use mathlib.Core.List.{List, [], map};
 ghost use mathlib.Core.Bool.{_&&_};
@@ -23,15 +22,7 @@ fn item_ok(names: &[u8], t: Item) -> bool
     ensures { λ r. ⌜ r ≡ itemRuleK (t .kind) (now (names .entry)) (asItem t) ⌝ }
 {
     if t.kind < items::OPEN {
-        return value::symbol_ok(
-            names,
-            Term {
-                kind: t.kind,
-                a: t.a,
-                b: t.b,
-                c: t.c,
-            },
-        );
+        return value::symbol_ok(names, items::literal(t));
     }
     if t.kind < items::S_VARIABLE {
         if t.b != 0 {

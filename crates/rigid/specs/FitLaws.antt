@@ -24,7 +24,8 @@ use Rattle.value.specs.EqualLaws.{value-at}
 use Rattle.kinds.specs.Kinds.{takesTerm}
 use Rattle.steps.specs.State.{cellsIn, backOf, entriesIn, Known, renamed, coded, patternIn}
 use Rattle.steps.specs.CellLaws.{decided-is, literal-value, contents-no, contents-yes, takes-term, cells-size, cells-none, cells-next, strip-yes, strip-no, strip-long, run-begins, run-differs}
-use Rattle.steps.specs.StepLaws.{entry-in, termOfItem, coded-close, coded-many, coded-call}
+use Rattle.items.specs.Records.{termOfItem}
+use Rattle.steps.specs.StepLaws.{entry-in, coded-close, coded-many, coded-call}
 use Rattle.steps.specs.PatternAtLaws.{pattern-at, pattern-end, pattern-item}
 use Rattle.rigid.specs.declared.Fit.{Fit}
 use Rattle.rigid.specs.declared.Fit.the-variants.{No, Ends, Takes}

@@ -16,7 +16,7 @@ use Rattle.value.specs.Equal.{equalSymbols}
 use Rattle.value.specs.EqualLaws.{symbols-differ, symbols-apart}
 use Rattle.steps.specs.declared.State.{State}
 use Rattle.steps.specs.State.{patternIn}
-use Rattle.steps.specs.StepLaws.{termOfItem}
+use Rattle.items.specs.Records.{termOfItem}
 use Rattle.steps.specs.PatternAtLaws.{pattern-at}
 use Rattle.rigid.specs.Fit.{fitsAt, splitFits, fitsTerm, Apart, kinds, chars, ApartAt, FirstFit}
 use Rattle.rigid.specs.FitLaws.{term-bracket, term-literal, fit-not}

@@ -2,7 +2,6 @@
 // known s- or t-variable by the kind of term it takes and not by its value, a known e-variable by its terms.
 use items::Item;
 use steps::State;
-use words::Term;
 ghost use mathlib.Core.Path.{_≡_};
 ghost use mathlib.Core.Bool.{false};
 ghost use mathlib.Core.List.{List, _∷_};
@@ -38,13 +37,7 @@ fn fit_term(names: &[u8], terms: &[u32], t: Item, start: usize) -> bool
     if items::CLOSE < t.kind {
         return kinds::variable_accepts(t.kind - items::S_VARIABLE, u);
     }
-    let literal = Term {
-        kind: t.kind,
-        a: t.a,
-        b: t.b,
-        c: t.c,
-    };
-    value::symbol_matches(names, literal, u)
+    value::symbol_matches(names, items::literal(t), u)
 }
 
 // A record of the run at the `len` terms from `start` on; x is the number of its name, and `bound` entries are known.

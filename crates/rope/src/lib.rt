@@ -199,6 +199,34 @@ fn copy_words_up(words: &mut [u32], from: usize, to: usize, n: usize)
     }
 }
 
+// The words of a run of terms, as `copy_words` copies them. A rope joined term by term has runs of one: their copy takes no loop, since the
+// compiler knows its length.
+fn copy_run(source: &[u32], target: &mut [u32], from: usize, to: usize, n: usize)
+    requires { ⌜ (from + n ≤ length (now source)) × (to + n ≤ length (now target)) ⌝ }
+    ensures { λ _.
+        ⌜ now (target .exit) ≡ sets (now (target .entry)) to (take n (drop from (now (source .entry)))) ⌝ }
+{
+    if n == words::TERM_WIDTH {
+        copy_words(source, target, from, to, words::TERM_WIDTH);
+        return;
+    }
+    copy_words(source, target, from, to, n);
+}
+
+// The same, as `copy_words_up` copies them.
+fn copy_run_up(words: &mut [u32], from: usize, to: usize, n: usize)
+    requires { ⌜ (from + n ≤ to) × (to + n ≤ length (now words)) ⌝ }
+    ensures { λ _.
+        let before = now (words .entry) in
+        ⌜ now (words .exit) ≡ sets before to (take n (drop from before)) ⌝ }
+{
+    if n == words::TERM_WIDTH {
+        copy_words_up(words, from, to, words::TERM_WIDTH);
+        return;
+    }
+    copy_words_up(words, from, to, n);
+}
+
 // The first len terms of a node become the first records of a work buffer.
 pub fn copy_out(terms: &[u32], nodes: &[u32], node: usize, len: usize, work: &mut [u32])
     requires shows { ⌜ Shows (now terms) (now nodes) node len ⌝ }
@@ -223,7 +251,7 @@ pub fn copy_out(terms: &[u32], nodes: &[u32], node: usize, len: usize, work: &mu
     while done < len {
         at = to_run(nodes, &mut stack, at);
         let r = front(nodes, at);
-        copy_words(
+        copy_run(
             terms,
             work,
             r.start * words::TERM_WIDTH,
@@ -259,7 +287,7 @@ pub fn copy_after(terms: &mut [u32], terms_used: usize, nodes: &[u32], node: usi
     while done < len {
         at = to_run(nodes, &mut stack, at);
         let r = front(nodes, at);
-        copy_words_up(
+        copy_run_up(
             terms,
             r.start * words::TERM_WIDTH,
             (terms_used + done) * words::TERM_WIDTH,

@@ -8,11 +8,11 @@ fn print(out: &[u8], n: usize) {
     }
 }
 
-// The largest sheet has 38,250 bytes; one byte more is read, so that what is longer is seen to be none.
+// One byte more than the longest sheet has is read, so that what is longer is seen to be none.
 fn main() {
-    let mut text = [0u8; 38251];
+    let mut text = [0u8; sheet_job::LONGEST_SHEET + 1];
     let n = io::read_full(0, &mut text);
-    let mut out = [0u8; 42025];
+    let mut out = [0u8; sheet_job::LONGEST_ANSWER];
     match sheet_job::run_sheet(&text[..n], &mut out) {
         Written::Bytes(k) => print(&out, k),
         Written::Refused(_) => print(&out, 0),

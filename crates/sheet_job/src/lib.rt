@@ -40,6 +40,16 @@ const PATTERN_WORDS: usize = sheet_form::MOST_ITEMS * items::ITEM_WIDTH;
 
 const RUN_WORDS: usize = sheet_form::MOST_RUNS * words::RUN_WIDTH;
 
+// The bytes of the longest sheet, whose name bytes a newline ends, and of the longest answer.
+pub const LONGEST_SHEET: usize = sheet_form::LINE
+    + sheet_form::TERM_LINE * sheet_form::MOST_TERMS
+    + sheet_form::MOST_NAMES
+    + 1
+    + sheet_form::ITEM_LINE * sheet_form::MOST_ITEMS
+    + sheet_form::RUN_LINE * sheet_form::MOST_RUNS;
+
+pub const LONGEST_ANSWER: usize = sheet_form::LINE + sheet_form::LINE * SLOTS * items::NAME_LIMIT;
+
 // ---- the lines of an answer ----
 
 // A refusal's line.

@@ -61,7 +61,7 @@ example-answer = refl
 -- `e.1 e.2` on sixteen terms has seventeen candidates, and sixteen have slots.
 abbrev pub manySheet : Sheet
 manySheet = record {
-  terms = replicate 64 0;
+  terms = replicate 80 0;
   names = 49 ∷ 50 ∷ [];
   pattern = 7 ∷ 0 ∷ 1 ∷ 0 ∷ 7 ∷ 1 ∷ 1 ∷ 0 ∷ [];
   runs = 0 ∷ 16 ∷ [];
@@ -101,7 +101,7 @@ many-answer = refl
 -- The words of so many terms `a`.
 unfoldable pub letters : ℕ → List ℕ
 letters zero = []
-letters (suc n) = 0 ∷ 97 ∷ 0 ∷ 0 ∷ letters n
+letters (suc n) = 0 ∷ 97 ∷ 0 ∷ 0 ∷ 0 ∷ letters n
 
 -- So many runs of term 0 alone, none of which fuses with the next.
 unfoldable pub apart : ℕ → List ℕ

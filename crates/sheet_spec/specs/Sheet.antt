@@ -20,7 +20,7 @@ columnWidth = 10
 abbrev pub countColumns : ℕ
 countColumns = 4
 
--- The numbers of a term line.
+-- "Term lines of the sheet have five columns of numbers, the other lines four" (02: 2.7): a line shows its record's words. The numbers of a term line.
 abbrev pub termColumns : ℕ
 termColumns = termLayout .width
 
@@ -83,7 +83,7 @@ unfoldable pub columns : List ℕ → List ℕ
 columns [] = []
 columns (v ∷ l) = column v ++ columns l
 
--- "A line is four decimal numbers .., then a newline." How many numbers is said by its users.
+-- "A line is four decimal numbers .., then a newline", and five of a term (02: 2.7). How many numbers is said by its users.
 unfoldable pub line : List ℕ → List ℕ
 line l = columns l ++ 10 ∷ []
 

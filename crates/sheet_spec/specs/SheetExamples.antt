@@ -9,14 +9,14 @@ use Rattle.term_spec.specs.Text.{isDigit}
 use Rattle.term_spec.specs.Words.{count, whole}
 use Rattle.sheet_spec.specs.Sheet.{leading, column, columns, line, lines, Sheet, limits, sheetText, sheetRule, digit, space, byte, scan, shownNumber}
 use Rattle.sheet_spec.specs.Sheet.{numberAt, numbersOk, zerosOk, lineOk, linesOk, numbersAt, wordsAt, countsAt, headRule, bodyRule, sheetAt}
-use Rattle.sheet_spec.specs.Sheet.{readSheet}
+use Rattle.sheet_spec.specs.Sheet.{readSheet, sheetEnd}
 
--- ---- 01's example ----
+-- ---- 01's example, "the two term lines" of which "end in a fifth 0" (02: 2.7) ----
 
 -- `e.1 '-' e.2` on `--`.
 abbrev pub example : Sheet
 example = record {
-  terms = 0 ∷ 45 ∷ 0 ∷ 0 ∷ 0 ∷ 45 ∷ 0 ∷ 0 ∷ [];
+  terms = 0 ∷ 45 ∷ 0 ∷ 0 ∷ 0 ∷ 0 ∷ 45 ∷ 0 ∷ 0 ∷ 0 ∷ [];
   names = 49 ∷ 50 ∷ [];
   pattern = 7 ∷ 0 ∷ 1 ∷ 0 ∷ 0 ∷ 45 ∷ 0 ∷ 0 ∷ 7 ∷ 1 ∷ 1 ∷ 0 ∷ [];
   runs = 0 ∷ 2 ∷ [];
@@ -38,8 +38,8 @@ newline = 10 ∷ []
 abbrev pub exampleText : List ℕ
 exampleText =
     (one 50 ++ one 50 ++ one 51 ++ one 49 ++ newline)
-    ++ (one 48 ++ two 52 53 ++ one 48 ++ one 48 ++ newline)
-    ++ (one 48 ++ two 52 53 ++ one 48 ++ one 48 ++ newline)
+    ++ (one 48 ++ two 52 53 ++ one 48 ++ one 48 ++ one 48 ++ newline)
+    ++ (one 48 ++ two 52 53 ++ one 48 ++ one 48 ++ one 48 ++ newline)
     ++ (49 ∷ 50 ∷ newline)
     ++ (one 55 ++ one 48 ++ one 49 ++ one 48 ++ newline)
     ++ (one 48 ++ two 52 53 ++ one 48 ++ one 48 ++ newline)
@@ -75,7 +75,7 @@ example-rule = refl
 
 -- A sheet of one term: these bytes are its first number, and these stand after its last.
 abbrev pub oneTerm : List ℕ → List ℕ → List ℕ
-oneTerm number ends = (one 49 ++ one 48 ++ one 48 ++ one 48 ++ newline) ++ number ++ one 48 ++ one 48 ++ one 48 ++ ends
+oneTerm number ends = (one 49 ++ one 48 ++ one 48 ++ one 48 ++ newline) ++ number ++ one 48 ++ one 48 ++ one 48 ++ one 48 ++ ends
 
 -- The newline of the term's line, and that after no names.
 abbrev pub twoEnds : List ℕ
@@ -99,7 +99,7 @@ shifted = 32 ∷ 32 ∷ 32 ∷ 32 ∷ 32 ∷ 32 ∷ 32 ∷ 32 ∷ 53 ∷ 32 ∷ 
 
 -- What a sheet of one term holds.
 abbrev pub termSheet : ℕ → Sheet
-termSheet v = record { terms = v ∷ 0 ∷ 0 ∷ 0 ∷ []; names = []; pattern = []; runs = [] }
+termSheet v = record { terms = v ∷ 0 ∷ 0 ∷ 0 ∷ 0 ∷ []; names = []; pattern = []; runs = [] }
 
 -- Each text below, but the last, differs from one of these in one place.
 pub in-form : map readSheet (oneTerm (two 52 53) twoEnds ∷ oneTerm largest twoEnds ∷ oneRun (one 48) ∷ [])
@@ -128,8 +128,19 @@ unfolding isDigit limits digit space byte scan shownNumber numberAt numbersOk ze
     readSheet
 wrong-line = refl
 
+-- A term line of four numbers, and one with ten spaces after it, so that the text is as long as it should be; a pattern line of five numbers.
+pub wrong-columns : map readSheet
+    (((one 49 ++ one 48 ++ one 48 ++ one 48 ++ newline) ++ (one 48 ++ two 52 53 ++ one 48 ++ one 48 ++ newline) ++ newline)
+    ∷ ((one 49 ++ one 48 ++ one 48 ++ one 48 ++ newline) ++ (one 48 ++ two 52 53 ++ one 48 ++ one 48 ++ newline) ++ one 32 ++ newline)
+    ∷ ((one 48 ++ one 48 ++ one 49 ++ one 48 ++ newline) ++ newline ++ (one 48 ++ two 52 53 ++ one 48 ++ one 48 ++ one 48 ++ newline))
+    ∷ [])
+    ≡ none ∷ none ∷ none ∷ []
+unfolding isDigit limits digit space byte scan shownNumber numberAt numbersOk zerosOk lineOk linesOk numbersAt wordsAt countsAt headRule bodyRule sheetAt
+    readSheet
+wrong-columns = refl
+
 -- 513 terms: the first line is enough to refuse them.
-pub too-many : readSheet (line (513 ∷ 0 ∷ 0 ∷ 0 ∷ []) ++ lines 4 0 513 (replicate 2052 0) ++ newline) ≡ none
+pub too-many : readSheet (line (513 ∷ 0 ∷ 0 ∷ 0 ∷ []) ++ lines 5 0 513 (replicate 2565 0) ++ newline) ≡ none
 unfolding line columns column leading lines isDigit limits digit space byte scan shownNumber numberAt numbersOk zerosOk lineOk countsAt headRule readSheet
 too-many = refl
 
@@ -138,3 +149,7 @@ pub counts-limited : limits 512 4096 256 64 ∷ limits 513 4096 256 64 ∷ limit
     ≡ true ∷ false ∷ false ∷ false ∷ false ∷ []
 unfolding limits
 counts-limited = refl
+
+-- The bytes of the longest sheet.
+pub longest-sheet : sheetEnd (record { terms = 512; names = 4096; pattern = 256; runs = 64 }) ≡ 43370
+longest-sheet = refl

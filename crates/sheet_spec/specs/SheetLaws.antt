@@ -17,7 +17,7 @@ use Rattle.sheet_spec.specs.LineLaws.{line-length, lines-length, words-l
 use Rattle.sheet_spec.specs.LineLaws.{read-line, lines-read, read-lines, words-below}
 use Rattle.sheet_spec.specs.Sheet.{line, lines, Sheet, limits, sheetText, sheetRule, beyond, wordsBelow, lineWidth, numberAt, lineOk, linesOk}
 use Rattle.sheet_spec.specs.Sheet.{numbersAt, wordsAt, Counts, countsAt, termsStart, namesStart, patternStart, runsStart, sheetEnd, headRule}
-use Rattle.sheet_spec.specs.Sheet.{bodyRule, sheetAt, readSheet}
+use Rattle.sheet_spec.specs.Sheet.{bodyRule, sheetAt, readSheet, countColumns, termColumns, itemColumns, runColumns, runZeros}
 
 -- ---- rules as facts ----
 
@@ -58,9 +58,9 @@ facts-limits t n p r h =
 
 -- What makes a sheet writable: whole records, counts within the limits.
 pub record Writable (s : Sheet) : Type 0 where
-  pub terms : length (s .terms) % 4 ≡ 0
-  pub pattern : length (s .pattern) % 4 ≡ 0
-  pub runs : length (s .runs) % 2 ≡ 0
+  pub terms : length (s .terms) % termLayout .width ≡ 0
+  pub pattern : length (s .pattern) % itemLayout .width ≡ 0
+  pub runs : length (s .runs) % runLayout .width ≡ 0
   pub limited : Limited (count termLayout (s .terms)) (length (s .names)) (count itemLayout (s .pattern)) (count runLayout (s .runs))
 
 -- It follows from the test.
@@ -85,51 +85,51 @@ facts-rule s f =
 
 -- ---- the parts of a text ----
 
--- A text's parts by their places: 41 bytes, b bytes, n bytes, a newline, p bytes, r bytes.
+-- A text's parts by their places: the first line, b bytes, n bytes, a newline, p bytes, r bytes.
 pub record Parts (t A B N P R : List ℕ) (b n p r : ℕ) : Type 0 where
-  pub size : length t ≡ 41 + b + n + 1 + p + r
-  pub head : take 41 (drop 0 t) ≡ A
-  pub terms : take b (drop 41 t) ≡ B
-  pub names : take n (drop (41 + b) t) ≡ N
-  pub newline : take 1 (drop (41 + b + n) t) ≡ 10 ∷ []
-  pub pattern : take p (drop (41 + b + n + 1) t) ≡ P
-  pub runs : take r (drop (41 + b + n + 1 + p) t) ≡ R
+  pub size : length t ≡ termsStart + b + n + 1 + p + r
+  pub head : take termsStart (drop 0 t) ≡ A
+  pub terms : take b (drop termsStart t) ≡ B
+  pub names : take n (drop (termsStart + b) t) ≡ N
+  pub newline : take 1 (drop (termsStart + b + n) t) ≡ 10 ∷ []
+  pub pattern : take p (drop (termsStart + b + n + 1) t) ≡ P
+  pub runs : take r (drop (termsStart + b + n + 1 + p) t) ≡ R
 
 -- The length of parts put together.
-parts-length : (A B N P R : List ℕ) (b n p r : ℕ) → length A ≡ 41 → length B ≡ b → length N ≡ n → length P ≡ p → length R ≡ r
-    → length (A ++ (B ++ (N ++ ((10 ∷ []) ++ (P ++ R))))) ≡ 41 + b + n + 1 + p + r
+parts-length : (A B N P R : List ℕ) (b n p r : ℕ) → length A ≡ termsStart → length B ≡ b → length N ≡ n → length P ≡ p → length R ≡ r
+    → length (A ++ (B ++ (N ++ ((10 ∷ []) ++ (P ++ R))))) ≡ termsStart + b + n + 1 + p + r
 parts-length A B N P R b n p r ha hb hn hp hr = simp length-append (omega arith)
 
 -- The parts of a text that was put together of them.
-parts-of : (t A B N P R : List ℕ) (b n p r : ℕ) → length A ≡ 41 → length B ≡ b → length N ≡ n → length P ≡ p → length R ≡ r
+parts-of : (t A B N P R : List ℕ) (b n p r : ℕ) → length A ≡ termsStart → length B ≡ b → length N ≡ n → length P ≡ p → length R ≡ r
     → t ≡ A ++ (B ++ (N ++ ((10 ∷ []) ++ (P ++ R)))) → Parts t A B N P R b n p r
 parts-of t A B N P R b n p r ha hb hn hp hr e =
-    let z : length t ≡ 41 + b + n + 1 + p + r = ap length e ∙ parts-length A B N P R b n p r ha hb hn hp hr in
-    let e0 : take (41 + (b + (n + (1 + (p + r))))) (drop 0 t) ≡ A ++ (B ++ (N ++ ((10 ∷ []) ++ (P ++ R)))) = take-all (41 + (b + (n + (1 + (p + r))))) t
+    let z : length t ≡ termsStart + b + n + 1 + p + r = ap length e ∙ parts-length A B N P R b n p r ha hb hn hp hr in
+    let e0 : take (termsStart + (b + (n + (1 + (p + r))))) (drop 0 t) ≡ A ++ (B ++ (N ++ ((10 ∷ []) ++ (P ++ R)))) = take-all (termsStart + (b + (n + (1 + (p + r))))) t
     (omega arith) ∙ e in
-    let e1 = parts-right t A (B ++ (N ++ ((10 ∷ []) ++ (P ++ R)))) 0 41 (b + (n + (1 + (p + r)))) ha e0 in
-    let e2 = parts-right t B (N ++ ((10 ∷ []) ++ (P ++ R))) 41 b (n + (1 + (p + r))) hb e1 in
-    let e3 = parts-right t N ((10 ∷ []) ++ (P ++ R)) (41 + b) n (1 + (p + r)) hn e2 in
-    let e4 = parts-right t (10 ∷ []) (P ++ R) (41 + b + n) 1 (p + r) refl e3 in
+    let e1 = parts-right t A (B ++ (N ++ ((10 ∷ []) ++ (P ++ R)))) 0 termsStart (b + (n + (1 + (p + r)))) ha e0 in
+    let e2 = parts-right t B (N ++ ((10 ∷ []) ++ (P ++ R))) termsStart b (n + (1 + (p + r))) hb e1 in
+    let e3 = parts-right t N ((10 ∷ []) ++ (P ++ R)) (termsStart + b) n (1 + (p + r)) hn e2 in
+    let e4 = parts-right t (10 ∷ []) (P ++ R) (termsStart + b + n) 1 (p + r) refl e3 in
     record {
       size = z;
-      head = parts-left t A (B ++ (N ++ ((10 ∷ []) ++ (P ++ R)))) 0 41 (b + (n + (1 + (p + r)))) ha e0;
-      terms = parts-left t B (N ++ ((10 ∷ []) ++ (P ++ R))) 41 b (n + (1 + (p + r))) hb e1;
-      names = parts-left t N ((10 ∷ []) ++ (P ++ R)) (41 + b) n (1 + (p + r)) hn e2;
-      newline = parts-left t (10 ∷ []) (P ++ R) (41 + b + n) 1 (p + r) refl e3;
-      pattern = parts-left t P R (41 + b + n + 1) p r hp e4;
-      runs = parts-right t P R (41 + b + n + 1) p r hp e4;
+      head = parts-left t A (B ++ (N ++ ((10 ∷ []) ++ (P ++ R)))) 0 termsStart (b + (n + (1 + (p + r)))) ha e0;
+      terms = parts-left t B (N ++ ((10 ∷ []) ++ (P ++ R))) termsStart b (n + (1 + (p + r))) hb e1;
+      names = parts-left t N ((10 ∷ []) ++ (P ++ R)) (termsStart + b) n (1 + (p + r)) hn e2;
+      newline = parts-left t (10 ∷ []) (P ++ R) (termsStart + b + n) 1 (p + r) refl e3;
+      pattern = parts-left t P R (termsStart + b + n + 1) p r hp e4;
+      runs = parts-right t P R (termsStart + b + n + 1) p r hp e4;
     }
 
 -- A text is put together of its parts.
 of-parts : (t A B N P R : List ℕ) (b n p r : ℕ) → Parts t A B N P R b n p r → t ≡ A ++ (B ++ (N ++ ((10 ∷ []) ++ (P ++ R))))
 of-parts t A B N P R b n p r f =
-    sym (take-all (41 + (b + (n + (1 + (p + r))))) t (omega (arith, f .size)))
-    ∙ parts-join t A (B ++ (N ++ ((10 ∷ []) ++ (P ++ R)))) 0 41 (b + (n + (1 + (p + r)))) (f .head)
-    (parts-join t B (N ++ ((10 ∷ []) ++ (P ++ R))) 41 b (n + (1 + (p + r))) (f .terms)
-    (parts-join t N ((10 ∷ []) ++ (P ++ R)) (41 + b) n (1 + (p + r)) (f .names)
-    (parts-join t (10 ∷ []) (P ++ R) (41 + b + n) 1 (p + r) (f .newline)
-    (parts-join t P R (41 + b + n + 1) p r (f .pattern) (f .runs)))))
+    sym (take-all (termsStart + (b + (n + (1 + (p + r))))) t (omega (arith, f .size)))
+    ∙ parts-join t A (B ++ (N ++ ((10 ∷ []) ++ (P ++ R)))) 0 termsStart (b + (n + (1 + (p + r)))) (f .head)
+    (parts-join t B (N ++ ((10 ∷ []) ++ (P ++ R))) termsStart b (n + (1 + (p + r))) (f .terms)
+    (parts-join t N ((10 ∷ []) ++ (P ++ R)) (termsStart + b) n (1 + (p + r)) (f .names)
+    (parts-join t (10 ∷ []) (P ++ R) (termsStart + b + n) 1 (p + r) (f .newline)
+    (parts-join t P R (termsStart + b + n + 1) p r (f .pattern) (f .runs)))))
 
 regroup : (A B N P R : List ℕ) → A ++ B ++ N ++ 10 ∷ P ++ R ≡ A ++ (B ++ (N ++ ((10 ∷ []) ++ (P ++ R))))
 regroup A B N P R = simp append-assoc
@@ -143,28 +143,30 @@ headNumbers c = c .terms ∷ c .names ∷ c .pattern ∷ c .runs ∷ []
 -- The parts of a text that are those of a sheet with these counts.
 abbrev SheetParts : List ℕ → Counts → Sheet → Type 0
 SheetParts t c s =
-    Parts t (line (headNumbers c)) (lines 4 0 (c .terms) (s .terms)) (s .names) (lines 4 0 (c .pattern) (s .pattern)) (lines 2 2 (c .runs) (s .runs))
-    (41 * c .terms) (c .names) (41 * c .pattern) (41 * c .runs)
+    Parts t (line (headNumbers c)) (lines termColumns 0 (c .terms) (s .terms)) (s .names) (lines itemColumns 0 (c .pattern) (s .pattern))
+    (lines runColumns runZeros (c .runs) (s .runs))
+    (lineWidth termColumns 0 * c .terms) (c .names) (lineWidth itemColumns 0 * c .pattern) (lineWidth runColumns runZeros * c .runs)
 
 -- The text of a sheet with these counts, part by part.
 unfoldable textOf : Counts → Sheet → List ℕ
 textOf c s =
     line (headNumbers c)
-    ++ (lines 4 0 (c .terms) (s .terms) ++ (s .names ++ ((10 ∷ []) ++ (lines 4 0 (c .pattern) (s .pattern) ++ lines 2 2 (c .runs) (s .runs)))))
+    ++ (lines termColumns 0 (c .terms) (s .terms)
+    ++ (s .names ++ ((10 ∷ []) ++ (lines itemColumns 0 (c .pattern) (s .pattern) ++ lines runColumns runZeros (c .runs) (s .runs)))))
 
 text-parts : (s : Sheet) → sheetText s ≡ textOf (countsOf s) s
 unfolding sheetText countsOf textOf
 text-parts s =
-    regroup (line (headNumbers (countsOf s))) (lines 4 0 (countsOf s .terms) (s .terms)) (s .names)
-    (lines 4 0 (countsOf s .pattern) (s .pattern)) (lines 2 2 (countsOf s .runs) (s .runs))
+    regroup (line (headNumbers (countsOf s))) (lines termColumns 0 (countsOf s .terms) (s .terms)) (s .names)
+    (lines itemColumns 0 (countsOf s .pattern) (s .pattern)) (lines runColumns runZeros (countsOf s .runs) (s .runs))
 
 -- The lengths of the lines of a sheet that can be written.
 record Lengths (s : Sheet) (c : Counts) : Type 0 where
-  head : length (line (headNumbers c)) ≡ 41
-  terms : length (lines 4 0 (c .terms) (s .terms)) ≡ 41 * c .terms
+  head : length (line (headNumbers c)) ≡ termsStart
+  terms : length (lines termColumns 0 (c .terms) (s .terms)) ≡ lineWidth termColumns 0 * c .terms
   names : length (s .names) ≡ c .names
-  pattern : length (lines 4 0 (c .pattern) (s .pattern)) ≡ 41 * c .pattern
-  runs : length (lines 2 2 (c .runs) (s .runs)) ≡ 41 * c .runs
+  pattern : length (lines itemColumns 0 (c .pattern) (s .pattern)) ≡ lineWidth itemColumns 0 * c .pattern
+  runs : length (lines runColumns runZeros (c .runs) (s .runs)) ≡ lineWidth runColumns runZeros * c .runs
 
 lengths : (s : Sheet) → T (sheetRule s) → Lengths s (countsOf s)
 unfolding countsOf count
@@ -172,10 +174,10 @@ lengths s h =
     let f = rule-facts s h in
     record {
       head = line-length (headNumbers (countsOf s));
-      terms = lines-length 4 0 (length (s .terms) / 4) (s .terms) (omega arith);
+      terms = lines-length termColumns 0 (count termLayout (s .terms)) (s .terms) (omega arith);
       names = refl;
-      pattern = lines-length 4 0 (length (s .pattern) / 4) (s .pattern) (omega arith);
-      runs = lines-length 2 2 (length (s .runs) / 2) (s .runs) (omega arith);
+      pattern = lines-length itemColumns 0 (count itemLayout (s .pattern)) (s .pattern) (omega arith);
+      runs = lines-length runColumns runZeros (count runLayout (s .runs)) (s .runs) (omega arith);
     }
 
 parts-written : (s : Sheet) → T (sheetRule s) → SheetParts (sheetText s) (countsOf s) s
@@ -203,7 +205,7 @@ below-head c l = and-of (ltb (c .terms) beyond) _ (lt→ltb (c .terms) beyond (o
     (and-of (ltb (c .runs) beyond) true (lt→ltb (c .runs) beyond (omega arith)) tt)))
 
 -- The counts in the first line, where it was written.
-counts-read : (text : List ℕ) (c : Counts) → numbersAt text 0 4 ≡ headNumbers c → countsAt text ≡ c
+counts-read : (text : List ℕ) (c : Counts) → numbersAt text 0 countColumns ≡ headNumbers c → countsAt text ≡ c
 unfolding numbersAt countsAt
 counts-read text c e =
     let a : numberAt text 0 ≡ c .terms = cc in
@@ -238,7 +240,7 @@ read-none text e = read-by text ∙ by-none text (countsAt text) e
 
 -- The tests of the first line as facts.
 pub record HeadFacts (text : List ℕ) (c : Counts) : Type 0 where
-  pub line : T (lineOk text 0 4 0)
+  pub line : T (lineOk text 0 countColumns 0)
   pub limited : Limited (c .terms) (c .names) (c .pattern) (c .runs)
   pub size : length text ≡ sheetEnd c
 
@@ -247,9 +249,9 @@ pub head-facts : (text : List ℕ) (c : Counts) → T (headRule text c) → Head
 unfolding headRule
 head-facts text c h =
     let lim = limits (c .terms) (c .names) (c .pattern) (c .runs) in
-    let (x, d) = both-of (leb 41 (length text) && lineOk text 0 4 0 && lim) (eqb (length text) (sheetEnd c)) h in
-    let (y, l) = both-of (leb 41 (length text) && lineOk text 0 4 0) lim x in
-    let (a, b) = both-of (leb 41 (length text)) (lineOk text 0 4 0) y in
+    let (x, d) = both-of (leb termsStart (length text) && lineOk text 0 countColumns 0 && lim) (eqb (length text) (sheetEnd c)) h in
+    let (y, l) = both-of (leb termsStart (length text) && lineOk text 0 countColumns 0) lim x in
+    let (a, b) = both-of (leb termsStart (length text)) (lineOk text 0 countColumns 0) y in
     record { line = b; limited = limits-facts _ _ _ _ l; size = eqb→eq _ _ d }
 
 -- And the tests from them.
@@ -257,26 +259,26 @@ pub facts-head : (text : List ℕ) (c : Counts) → HeadFacts text c → T (head
 unfolding headRule
 facts-head text c f =
     let lim = limits (c .terms) (c .names) (c .pattern) (c .runs) in
-    and-of (leb 41 (length text) && lineOk text 0 4 0 && lim) (eqb (length text) (sheetEnd c))
-    (and-of (leb 41 (length text) && lineOk text 0 4 0) lim (and-of (leb 41 (length text)) (lineOk text 0 4 0)
-    (le→leb 41 (length text) (omega (arith, f .size))) (f .line)) (facts-limits _ _ _ _ (f .limited)))
+    and-of (leb termsStart (length text) && lineOk text 0 countColumns 0 && lim) (eqb (length text) (sheetEnd c))
+    (and-of (leb termsStart (length text) && lineOk text 0 countColumns 0) lim (and-of (leb termsStart (length text)) (lineOk text 0 countColumns 0)
+    (le→leb termsStart (length text) (omega (arith, f .size))) (f .line)) (facts-limits _ _ _ _ (f .limited)))
     (eq→eqb _ _ (f .size))
 
 -- The tests of what follows the first line as facts.
 pub record BodyFacts (text : List ℕ) (c : Counts) : Type 0 where
-  pub terms : T (linesOk text termsStart 4 0 (c .terms))
+  pub terms : T (linesOk text termsStart termColumns 0 (c .terms))
   pub newline : getD text (namesStart c + c .names) 0 ≡ 10
-  pub pattern : T (linesOk text (patternStart c) 4 0 (c .pattern))
-  pub runs : T (linesOk text (runsStart c) 2 2 (c .runs))
+  pub pattern : T (linesOk text (patternStart c) itemColumns 0 (c .pattern))
+  pub runs : T (linesOk text (runsStart c) runColumns runZeros (c .runs))
 
 -- They follow from the tests.
 pub body-facts : (text : List ℕ) (c : Counts) → T (bodyRule text c) → BodyFacts text c
 unfolding bodyRule
 body-facts text c h =
-    let a = linesOk text termsStart 4 0 (c .terms) in
+    let a = linesOk text termsStart termColumns 0 (c .terms) in
     let b = eqb (getD text (namesStart c + c .names) 0) 10 in
-    let d = linesOk text (patternStart c) 4 0 (c .pattern) in
-    let r = linesOk text (runsStart c) 2 2 (c .runs) in
+    let d = linesOk text (patternStart c) itemColumns 0 (c .pattern) in
+    let r = linesOk text (runsStart c) runColumns runZeros (c .runs) in
     let (x, w) = both-of (a && b && d) r h in
     let (y, v) = both-of (a && b) d x in
     let (t, u) = both-of a b y in
@@ -286,15 +288,16 @@ body-facts text c h =
 pub facts-body : (text : List ℕ) (c : Counts) → BodyFacts text c → T (bodyRule text c)
 unfolding bodyRule
 facts-body text c f =
-    let a = linesOk text termsStart 4 0 (c .terms) in
+    let a = linesOk text termsStart termColumns 0 (c .terms) in
     let b = eqb (getD text (namesStart c + c .names) 0) 10 in
-    let d = linesOk text (patternStart c) 4 0 (c .pattern) in
-    let r = linesOk text (runsStart c) 2 2 (c .runs) in
+    let d = linesOk text (patternStart c) itemColumns 0 (c .pattern) in
+    let r = linesOk text (runsStart c) runColumns runZeros (c .runs) in
     and-of (a && b && d) r (and-of (a && b) d (and-of a b (f .terms) (eq→eqb _ _ (f .newline))) (f .pattern)) (f .runs)
 
-sheet-same : (text : List ℕ) (c : Counts) (s : Sheet) → wordsAt text termsStart 4 0 (c .terms) ≡ s .terms
+sheet-same : (text : List ℕ) (c : Counts) (s : Sheet) → wordsAt text termsStart termColumns 0 (c .terms) ≡ s .terms
     → take (c .names) (drop (namesStart c) text) ≡ s .names
-    → wordsAt text (patternStart c) 4 0 (c .pattern) ≡ s .pattern → wordsAt text (runsStart c) 2 2 (c .runs) ≡ s .runs → sheetAt text c ≡ s
+    → wordsAt text (patternStart c) itemColumns 0 (c .pattern) ≡ s .pattern
+    → wordsAt text (runsStart c) runColumns runZeros (c .runs) ≡ s .runs → sheetAt text c ≡ s
 unfolding sheetAt
 sheet-same text c s t n p r = rw (t, n, p, r) refl
 
@@ -307,10 +310,10 @@ sheet-written s h bt bp br =
     let c = countsOf s in
     let f = rule-facts s h in
     let q = parts-written s h in
-    let (hn, ho) = line-read t (headNumbers c) 0 4 0 refl (below-head c (f .limited)) (q .head) in
-    let (tn, to) = all-read t 41 4 0 (c .terms) (s .terms) (omega arith) bt (q .terms) in
-    let (pn, po) = all-read t (patternStart c) 4 0 (c .pattern) (s .pattern) (omega arith) bp (q .pattern) in
-    let (rn, ro) = all-read t (runsStart c) 2 2 (c .runs) (s .runs) (omega arith) br (q .runs) in
+    let (hn, ho) = line-read t (headNumbers c) 0 countColumns 0 refl (below-head c (f .limited)) (q .head) in
+    let (tn, to) = all-read t termsStart termColumns 0 (c .terms) (s .terms) (omega arith) bt (q .terms) in
+    let (pn, po) = all-read t (patternStart c) itemColumns 0 (c .pattern) (s .pattern) (omega arith) bp (q .pattern) in
+    let (rn, ro) = all-read t (runsStart c) runColumns runZeros (c .runs) (s .runs) (omega arith) br (q .runs) in
     let hr = facts-head t c (record { line = ho; limited = f .limited; size = sheet-length s h }) in
     let br = facts-body t c (record { terms = to; newline = part-byte t _ 10 (q .newline); pattern = po; runs = ro }) in
     let same = sheet-same t c s tn (q .names) pn rn in
@@ -335,22 +338,25 @@ read-parts text h b =
     let z = f .size in
     record {
       size = z;
-      head = read-line text 0 4 0 (omega arith) (f .line);
-      terms = read-lines text 41 4 0 (c .terms) (omega arith) (g .terms);
+      head = read-line text 0 countColumns 0 (omega arith) (f .line);
+      terms = read-lines text termsStart termColumns 0 (c .terms) (omega arith) (g .terms);
       names = refl;
       newline = byte-part text (namesStart c + c .names) (omega arith) ∙ ap (λ x. x ∷ []) (g .newline);
-      pattern = read-lines text (patternStart c) 4 0 (c .pattern) (omega arith) (g .pattern);
-      runs = read-lines text (runsStart c) 2 2 (c .runs) (omega arith) (g .runs);
+      pattern = read-lines text (patternStart c) itemColumns 0 (c .pattern) (omega arith) (g .pattern);
+      runs = read-lines text (runsStart c) runColumns runZeros (c .runs) (omega arith) (g .runs);
     }
 
 -- The counts of the sheet in a text are those of its first line.
 pub counts-same : (text : List ℕ) (c : Counts) → length text ≡ sheetEnd c → countsOf (sheetAt text c) ≡ c
 unfolding countsOf sheetAt count
 counts-same text c h =
-    let a : length (wordsAt text termsStart 4 0 (c .terms)) / 4 ≡ c .terms = omega (arith, words-length text termsStart 4 0 (c .terms)) in
+    let a : length (wordsAt text termsStart termColumns 0 (c .terms)) / termLayout .width ≡ c .terms =
+    omega (arith, words-length text termsStart termColumns 0 (c .terms)) in
     let b : length (take (c .names) (drop (namesStart c) text)) ≡ c .names = part-length text (namesStart c) (c .names) (omega arith) in
-    let d : length (wordsAt text (patternStart c) 4 0 (c .pattern)) / 4 ≡ c .pattern = omega (arith, words-length text (patternStart c) 4 0 (c .pattern)) in
-    let r : length (wordsAt text (runsStart c) 2 2 (c .runs)) / 2 ≡ c .runs = omega (arith, words-length text (runsStart c) 2 2 (c .runs)) in
+    let d : length (wordsAt text (patternStart c) itemColumns 0 (c .pattern)) / itemLayout .width ≡ c .pattern =
+    omega (arith, words-length text (patternStart c) itemColumns 0 (c .pattern)) in
+    let r : length (wordsAt text (runsStart c) runColumns runZeros (c .runs)) / runLayout .width ≡ c .runs =
+    omega (arith, words-length text (runsStart c) runColumns runZeros (c .runs)) in
     rw (a, b, d, r) refl
 
 read-writable : (text : List ℕ) (c : Counts) → HeadFacts text c → T (sheetRule (sheetAt text c))
@@ -358,14 +364,14 @@ unfolding sheetAt count
 read-writable text c f =
     let z = f .size in
     facts-rule (sheetAt text c) (record {
-      terms = omega (arith, words-length text termsStart 4 0 (c .terms));
-      pattern = omega (arith, words-length text (patternStart c) 4 0 (c .pattern));
-      runs = omega (arith, words-length text (runsStart c) 2 2 (c .runs));
+      terms = omega (arith, words-length text termsStart termColumns 0 (c .terms));
+      pattern = omega (arith, words-length text (patternStart c) itemColumns 0 (c .pattern));
+      runs = omega (arith, words-length text (runsStart c) runColumns runZeros (c .runs));
       limited = record {
-        terms = omega (arith, words-length text termsStart 4 0 (c .terms));
+        terms = omega (arith, words-length text termsStart termColumns 0 (c .terms));
         names = omega (arith, part-length text (namesStart c) (c .names) (omega arith));
-        pattern = omega (arith, words-length text (patternStart c) 4 0 (c .pattern));
-        runs = omega (arith, words-length text (runsStart c) 2 2 (c .runs));
+        pattern = omega (arith, words-length text (patternStart c) itemColumns 0 (c .pattern));
+        runs = omega (arith, words-length text (runsStart c) runColumns runZeros (c .runs));
       };
     })
 
@@ -381,10 +387,10 @@ read-below : (text : List ℕ) (c : Counts) → BodyFacts text c → T (wordsBel
     × T (wordsBelow (sheetAt text c .runs))
 unfolding sheetAt
 read-below text c f = (
-  words-below text termsStart 4 0 (c .terms) (f .terms),
-  words-below text (patternStart c) 4 0 (c .pattern) (f .pattern),
+  words-below text termsStart termColumns 0 (c .terms) (f .terms),
+  words-below text (patternStart c) itemColumns 0 (c .pattern) (f .pattern),
   words-below text
-      (runsStart c) 2 2 (c .runs) (f .runs),
+      (runsStart c) runColumns runZeros (c .runs) (f .runs),
 )
 
 -- Only what would be written is read.

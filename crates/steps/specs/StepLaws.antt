@@ -22,6 +22,7 @@ use Rattle.match_spec.specs.RunLaws.{Inside}
 use Rattle.value.specs.Equal.{Texts, TermStore, equalSymbols, equalRuns}
 use Rattle.value.specs.EqualLaws.{in-names, texts-at}
 use Rattle.kinds.specs.Kinds.{takesTerm}
+use Rattle.items.specs.Records.{termOfItem}
 use Rattle.steps.specs.declared.State.{State}
 use Rattle.steps.specs.declared.Turned.{Turned}
 use Rattle.steps.specs.declared.What.the-variants.{Stop, Next}
@@ -88,10 +89,6 @@ levels-wrote d w lv after a b e q = record { back = rw q (restores-two d lv a b)
 
 -- ---- literals ----
 
--- A literal as a term.
-abbrev pub termOfItem : Item → Term
-termOfItem t = record { kind = t .kind; a = t .a; b = t .b; c = t .c }
-
 literal-in : (k : ℕ) (names : List ℕ) (t : Item) → k < 3 → T (itemRuleK k names t) → T (termRuleK k names [] (termOfItem t))
 unfolding itemRuleK termRuleK
 literal-in zero names t h r = r
@@ -99,13 +96,21 @@ literal-in (suc zero) names t h r = r
 literal-in (suc (suc zero)) names t h r = r
 literal-in (suc (suc (suc k))) names t h r = absurd (omega arith)
 
--- The texts of a literal and of a term of the store lie in the names.
-pub literal-texts : (names w : List ℕ) (used i : ℕ) (t : Item) (u : Term) → TermStore names w used → i < used → u ≡ recordAt termLayout w i
-    → t .kind < 3 → T (itemRuleK (t .kind) names t) → Texts names (termOfItem t) u
-literal-texts names w used i t u store lt e h r = record {
-  left = in-names (t .kind) names [] (termOfItem t) (literal-in (t .kind) names t h r);
-  right = texts-at names w used store i i u u lt lt e e .right;
-}
+-- The texts of a literal, as the term l, and of a term of the store lie in the names; l is a symbol.
+pub literal-texts : (names w : List ℕ) (used i : ℕ) (t : Item) (l u : Term) → TermStore names w used → i < used → l ≡ termOfItem t
+    → u ≡ recordAt termLayout w i → t .kind < 3 → T (itemRuleK (t .kind) names t) → Texts names l u × (l .kind < 3)
+literal-texts names w used i t l u store lt f e h r = rw f (
+  record {
+    left = in-names (t .kind) names [] (termOfItem t) (literal-in (t .kind) names t h r);
+    right = texts-at names w used store i i u u lt lt e e .right;
+  },
+  h,
+)
+
+-- What is answered of the term l is answered of the literal.
+pub literal-same : (names : List ℕ) (t : Item) (l u : Term) {b : Bool} → b ≡ equalSymbols names l u → l ≡ termOfItem t
+    → b ≡ equalSymbols names (termOfItem t) u
+literal-same names t l u q e = q ∙ ap (λ z. equalSymbols names z u) e
 
 literal-code : (k : ℕ) (names text : List ℕ) (t : Item) (x : ℕ) → k < 3 → text ≡ textAt names (t .a) (t .b)
     → renamed x (canonE (elementK k names t)) ≡ lit (canon (valueK k text (termOfItem t) []))

@@ -2,7 +2,6 @@
 // recurses.
 use items::Item;
 use words::Run;
-use words::Term;
 ghost use mathlib.Core.Path.{_≡_};
 ghost use mathlib.Core.List.{List, [], _∷_, _++_};
 ghost use mathlib.Core.Bool.{Bool, true};
@@ -123,13 +122,7 @@ fn turn_literal(names: &[u8], terms: &[u32], t: Item, s: State) -> Turned
         return stop(s);
     }
     let u = words::get_term(terms, s.start);
-    let literal = Term {
-        kind: t.kind,
-        a: t.a,
-        b: t.b,
-        c: t.c,
-    };
-    if !value::symbol_matches(names, literal, u) {
+    if !value::symbol_matches(names, items::literal(t), u) {
         return stop(s);
     }
     next(pass(s, 1))

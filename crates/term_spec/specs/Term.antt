@@ -7,24 +7,25 @@ use Prim.Native.Nat.{ℕ, suc, zero, _+_, max}
 use Rattle.term_spec.specs.Words.{Layout}
 use Rattle.term_spec.specs.Text.{identifierText, numberText, textRule}
 
--- "Term, four words: kind, a, b, c."
+-- "Term, four words: kind, a, b, c", and now "five words, the fifth being the upper half of an unknown's level and 0 elsewhere" (02: 2.7).
 pub record Term : Type 0 where
   pub kind : ℕ
   pub a : ℕ
   pub b : ℕ
   pub c : ℕ
+  pub d : ℕ
 
--- The term that four words mean.
+-- The term that five words mean.
 unfoldable pub termOf : List ℕ → Term
-termOf w = record { kind = getD w 0 0; a = getD w 1 0; b = getD w 2 0; c = getD w 3 0 }
+termOf w = record { kind = getD w 0 0; a = getD w 1 0; b = getD w 2 0; c = getD w 3 0; d = getD w 4 0 }
 
--- The term record's width stands here alone (02: 2.7).
+-- The term record's width stands here alone.
 abbrev pub termLayout : Layout Term
-termLayout = record { width = 4; read = termOf; words = λ t. t .kind ∷ t .a ∷ t .b ∷ t .c ∷ [] }
+termLayout = record { width = 5; read = termOf; words = λ t. t .kind ∷ t .a ∷ t .b ∷ t .c ∷ t .d ∷ [] }
 
 -- What is read where there is no term; the rules keep it from being met.
 abbrev pub noTerm : Term
-noTerm = record { kind = 0; a = 0; b = 0; c = 0 }
+noTerm = record { kind = 0; a = 0; b = 0; c = 0; d = 0 }
 
 -- A run of terms: its start and its length.
 pub record Run : Type 0 where
@@ -123,8 +124,8 @@ symbolRule (suc zero) names a b c = textRule identifierText names a b && eqb c 0
 symbolRule (suc (suc zero)) names a b c = textRule numberText names a b && eqb c 0
 symbolRule (suc (suc (suc k))) names a b c = false
 
--- The rule of a term by its kind, among the terms below it. "4 Unknown: a kind (0 symbol, 1 term, 2 expression), b level, c index": what it
--- stands for is a symbol, a term or an expression in the Refal-5 manual's meaning as 01 gives it (sections 1.3, 2.2, 6.4).
+-- The rule of a term's first four words by its kind, among the terms below it. "4 Unknown: a kind (0 symbol, 1 term, 2 expression), b level,
+-- c index": what it stands for is a symbol, a term or an expression in the Refal-5 manual's meaning as 01 gives it (sections 1.3, 2.2, 6.4).
 unfoldable pub termRuleK : ℕ → List ℕ → List Term → Term → Bool
 termRuleK zero names below t = symbolRule charKind names (t .a) (t .b) (t .c)
 termRuleK (suc zero) names below t = symbolRule identifierKind names (t .a) (t .b) (t .c)
@@ -133,9 +134,13 @@ termRuleK (suc (suc (suc zero))) names below t = bracketRule below t
 termRuleK (suc (suc (suc (suc zero)))) names below t = leb (t .a) expressionUnknown
 termRuleK (suc (suc (suc (suc (suc k))))) names below t = false
 
+-- The rule of the fifth word: "the upper half of an unknown's level and 0 elsewhere" (02: 2.7).
+abbrev pub upperRule : Term → Bool
+upperRule t = eqb (t .kind) unknownKind || eqb (t .d) 0
+
 -- The rule of a term among the terms below it.
 unfoldable pub termRule : List ℕ → List Term → Term → Bool
-termRule names below t = termRuleK (t .kind) names below t
+termRule names below t = upperRule t && termRuleK (t .kind) names below t
 
 -- The rule of a store: each term's, among those below it (2 BadTerm otherwise).
 unfoldable pub termsRule : List ℕ → List Term → List Term → Bool

@@ -11,8 +11,16 @@ use Rattle.term_spec.specs.Table.{table}
 use Rattle.term_spec.specs.Term.{Term, termOf, termLayout, noTerm, isScalar, depthK, deepest, bracketRule, symbolRule, termRuleK, termRule, termsRule}
 use Rattle.term_spec.specs.Value.{Value, char, ident, num, fromList, bracketed, valueK, valueOf, values, canon, canons, heads?, list?, same?}
 
+-- A term by its five words, and one whose fifth word is 0.
+abbrev five : ℕ → ℕ → ℕ → ℕ → ℕ → Term
+five kind a b c d = record { kind = kind; a = a; b = b; c = c; d = d }
+
 abbrev tm : ℕ → ℕ → ℕ → ℕ → Term
-tm kind a b c = record { kind = kind; a = a; b = b; c = c }
+tm kind a b c = five kind a b c 0
+
+-- The largest word.
+abbrev top : ℕ
+top = 4294967295
 
 -- ---- lowering ----
 
@@ -45,6 +53,10 @@ exTerms =
     ∷ tm 1 15 3 0 ∷ tm 1 18 3 0
     -- 27 to 32: the numbers 0, 00, 07 and 70, (7), (007)
     ∷ tm 2 11 1 0 ∷ tm 2 11 2 0 ∷ tm 2 12 2 0 ∷ tm 2 10 2 0 ∷ tm 3 5 1 1 ∷ tm 3 6 1 1
+    -- 33 to 37: unknowns of the levels 5, 2³² + 5 (twice), 5 · 2³² and 2⁶⁴ - 1
+    ∷ tm 4 0 5 1 ∷ five 4 0 5 1 1 ∷ five 4 0 5 1 1 ∷ five 4 0 0 1 5 ∷ five 4 0 top 1 top
+    -- 38 and 39: brackets around 33 and 34
+    ∷ tm 3 33 1 1 ∷ tm 3 34 1 1
     ∷ []
 
 -- Two terms of the list above, by their numbers, and whether they are equal.
@@ -83,8 +95,9 @@ compared =
     ∷ unlike 5 8 ∷ unlike 4 9 ∷ unlike 3 10 ∷ unlike 9 10 ∷ alike 9 11
     -- brackets by their contents, term by term; a bracket and its only term
     ∷ alike 13 14 ∷ unlike 14 15 ∷ unlike 12 13 ∷ unlike 13 16 ∷ alike 16 19 ∷ alike 17 18 ∷ unlike 13 17 ∷ unlike 1 13
-    -- unknowns by kind, level and index
+    -- unknowns by kind, level and index, the level by both its halves
     ∷ alike 20 21 ∷ unlike 20 22 ∷ unlike 20 23 ∷ unlike 20 24
+    ∷ unlike 33 34 ∷ alike 34 35 ∷ unlike 33 36 ∷ unlike 34 36 ∷ alike 37 37 ∷ unlike 37 34 ∷ unlike 38 39
     ∷ []
 
 compared-terms : map (λ e. equalTerms (e .left) (e .right)) compared ≡ map (λ e. e .answer) compared
@@ -164,6 +177,10 @@ judged =
     ∷ taken [] ruleTerms (tm 3 0 4 3) ∷ refused [] ruleTerms (tm 3 0 4 2) ∷ refused [] ruleTerms (tm 3 0 4 4)
     -- Unknown: kinds 0 to 2, any level and index; no other kind of term
     ∷ taken [] [] (tm 4 0 0 0) ∷ taken [] [] (tm 4 1 5 70000) ∷ taken [] [] (tm 4 2 70000 5) ∷ refused [] [] (tm 4 3 0 0) ∷ refused [] [] (tm 5 0 0 0)
+    -- the fifth word: any of an unknown, 0 of the others
+    ∷ taken [] [] (five 4 0 5 1 1) ∷ taken [] [] (five 4 2 0 0 top) ∷ refused [] [] (five 4 3 0 0 1) ∷ refused [] [] (five 5 0 0 0 1)
+    ∷ refused [] [] (five 0 97 0 0 1) ∷ refused [] [] (five 0 97 0 0 top) ∷ refused ruleNames [] (five 1 0 1 0 1)
+    ∷ refused ruleNames [] (five 2 3 1 0 1) ∷ refused [] ruleTerms (five 3 4 0 1 1) ∷ refused [] ruleTerms (five 3 0 2 1 1)
     ∷ []
 
 judged-terms : map (λ e. termRule (e .names) (e .below) (e .term)) judged ≡ map (λ e. e .answer) judged
@@ -189,22 +206,24 @@ one-bad-term = refl
 
 -- A slice of four terms.
 abbrev four : List ℕ
-four = (0 ∷ 97 ∷ 1 ∷ 2 ∷ []) ++ (0 ∷ 98 ∷ 3 ∷ 4 ∷ []) ++ (0 ∷ 99 ∷ 5 ∷ 6 ∷ []) ++ (0 ∷ 100 ∷ 7 ∷ 8 ∷ [])
+four = (0 ∷ 97 ∷ 1 ∷ 2 ∷ 3 ∷ []) ++ (0 ∷ 98 ∷ 4 ∷ 5 ∷ 6 ∷ []) ++ (0 ∷ 99 ∷ 7 ∷ 8 ∷ 9 ∷ []) ++ (0 ∷ 100 ∷ 10 ∷ 11 ∷ 12 ∷ [])
 
 -- Two records written after the first leave the first and the fourth as they were.
-two-written : write termLayout four 1 (tm 3 0 1 1 ∷ tm 1 9 2 0 ∷ []) ≡ (0 ∷ 97 ∷ 1 ∷ 2 ∷ []) ++ (3 ∷ 0 ∷ 1 ∷ 1 ∷ []) ++ (1 ∷ 9 ∷ 2 ∷ 0 ∷ []) ++ (0 ∷ 100 ∷ 7 ∷ 8 ∷ [])
+two-written : write termLayout four 1 (tm 3 0 1 1 ∷ five 4 2 9 8 7 ∷ [])
+    ≡ (0 ∷ 97 ∷ 1 ∷ 2 ∷ 3 ∷ []) ++ (3 ∷ 0 ∷ 1 ∷ 1 ∷ 0 ∷ []) ++ (4 ∷ 2 ∷ 9 ∷ 8 ∷ 7 ∷ []) ++ (0 ∷ 100 ∷ 10 ∷ 11 ∷ 12 ∷ [])
 unfolding write encode
 two-written = refl
 
-four-read : decode termLayout 4 (write termLayout four 1 (tm 3 0 1 1 ∷ tm 1 9 2 0 ∷ [])) ≡ tm 0 97 1 2 ∷ tm 3 0 1 1 ∷ tm 1 9 2 0 ∷ tm 0 100 7 8 ∷ []
+four-read : decode termLayout 4 (write termLayout four 1 (tm 3 0 1 1 ∷ five 4 2 9 8 7 ∷ []))
+    ≡ five 0 97 1 2 3 ∷ tm 3 0 1 1 ∷ five 4 2 9 8 7 ∷ five 0 100 10 11 12 ∷ []
 unfolding write encode decode termOf
 four-read = refl
 
--- Slices of 0, 4, 7 and 8 words: whether each is whole, and how many terms it has.
-slices : map (λ n. whole termLayout (replicate n 0)) (0 ∷ 4 ∷ 7 ∷ 8 ∷ []) ≡ true ∷ true ∷ false ∷ true ∷ []
+-- Slices of 0, 4, 5, 9 and 10 words: whether each is whole, and how many terms it has.
+slices : map (λ n. whole termLayout (replicate n 0)) (0 ∷ 4 ∷ 5 ∷ 9 ∷ 10 ∷ []) ≡ true ∷ false ∷ true ∷ false ∷ true ∷ []
 unfolding whole
 slices = refl
 
-slice-records : map (λ n. length (records termLayout (replicate n 0))) (0 ∷ 4 ∷ 7 ∷ 8 ∷ []) ≡ 0 ∷ 1 ∷ 1 ∷ 2 ∷ []
+slice-records : map (λ n. length (records termLayout (replicate n 0))) (0 ∷ 4 ∷ 5 ∷ 9 ∷ 10 ∷ []) ≡ 0 ∷ 0 ∷ 1 ∷ 1 ∷ 2 ∷ []
 unfolding records count decode
 slice-records = refl

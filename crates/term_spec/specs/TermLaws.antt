@@ -11,7 +11,7 @@ use Rattle.term_spec.specs.BoolLaws.{both-of, and-of, eq→eqb}
 use Rattle.term_spec.specs.ListLaws.{part-kept}
 use Rattle.term_spec.specs.TableLaws.{table-length, table-kept}
 use Rattle.term_spec.specs.Text.{textAt}
-use Rattle.term_spec.specs.Term.{Term, noTerm, Run, part, bracketKind, depthLimit, contentsRun, deepest, runRule, bracketRule, termRuleK, termRule, termsRule}
+use Rattle.term_spec.specs.Term.{Term, noTerm, Run, part, bracketKind, depthLimit, contentsRun, deepest, runRule, bracketRule, termRuleK, upperRule, termRule, termsRule}
 use Rattle.term_spec.specs.Value.{Value, bracketed, valueK, valueOf, values}
 
 -- ---- rules ----
@@ -59,10 +59,20 @@ rule-more (suc (suc (suc zero))) names below more t h = bracket-rule (below ++ m
 rule-more (suc (suc (suc (suc zero)))) names below more t h = h
 rule-more (suc (suc (suc (suc (suc k))))) names below more t h = absurd h
 
+term-facts : (names : List ℕ) (below : List Term) (t : Term) → T (termRule names below t) → T (upperRule t) × T (termRuleK (t .kind) names below t)
+unfolding termRule
+term-facts names below t h = both-of (upperRule t) (termRuleK (t .kind) names below t) h
+
+-- The rule of a valid term's first four words.
+pub rule-by-kind : (names : List ℕ) (below : List Term) (t : Term) → T (termRule names below t) → T (termRuleK (t .kind) names below t)
+rule-by-kind names below t h = term-facts names below t h .1
+
 -- A term stays valid when terms are added to those below it.
 pub term-more : (names : List ℕ) (below more : List Term) (t : Term) → T (termRule names below t) → T (termRule names (below ++ more) t)
 unfolding termRule
-term-more names below more t h = rule-more (t .kind) names below more t h
+term-more names below more t h =
+    let (u, k) = term-facts names below t h in
+    and-of (upperRule t) (termRuleK (t .kind) names (below ++ more) t) u (rule-more (t .kind) names below more t k)
 
 terms-facts : (names : List ℕ) (below : List Term) (t : Term) (ts : List Term) → T (termsRule names below (t ∷ ts))
     → T (termRule names below t) × T (termsRule names (below ++ (t ∷ [])) ts)
@@ -98,9 +108,10 @@ unfolding termRuleK
 bracket-of k names below t e h = bracket-facts below t (rw e at h)
 
 pub valid-terms : (names : List ℕ) (ts : List Term) → T (termsRule names [] ts) → Valid ts
-unfolding Valid termRule
+unfolding Valid
 valid-terms names ts h i lt e =
-    let f = bracket-of ((getD ts i noTerm) .kind) names (take i ts) (getD ts i noTerm) e (term-at names [] ts i h lt) in
+    let t = getD ts i noTerm in
+    let f = bracket-of (t .kind) names (take i ts) t e (rule-by-kind names (take i ts) t (term-at names [] ts i h lt)) in
     omega (arith, f .inside, length-take i ts)
 
 -- ---- values ----
@@ -131,5 +142,5 @@ valueK-more (suc (suc (suc (suc (suc k))))) names text below t vs more e h = abs
 -- A valid term means the same when values are added to those below it.
 pub value-more : (names : List ℕ) (below : List Term) (t : Term) (vs more : List Value) → length below ≡ length vs → T (termRule names below t)
     → valueOf names t (vs ++ more) ≡ valueOf names t vs
-unfolding termRule valueOf
-value-more names below t vs more e h = valueK-more (t .kind) names (textAt names (t .a) (t .b)) below t vs more e h
+unfolding valueOf
+value-more names below t vs more e h = valueK-more (t .kind) names (textAt names (t .a) (t .b)) below t vs more e (rule-by-kind names below t h)

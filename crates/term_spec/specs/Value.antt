@@ -12,14 +12,14 @@ use Rattle.term_spec.specs.Term.{Term, part, contentsRun}
 use Rattle.term_spec.specs.Table.{table}
 
 mutual
-  -- A term as spelled: its text and its contents, not offsets or term numbers. An unknown has kind, level and index. What symbols, brackets and
-  -- unknowns are is the Refal-5 manual's meaning as 01 gives it (sections 1.3, 2.2, 6.4).
+  -- A term as spelled: its text and its contents, not offsets or term numbers. An unknown has its kind, the lower and the upper half of its level
+  -- (02: 2.7), and its index. What symbols, brackets and unknowns are is the Refal-5 manual's meaning as 01 gives it (sections 1.3, 2.2, 6.4).
   pub data Value : Type 0 where
     char : ℕ → Value
     ident : List ℕ → Value
     num : List ℕ → Value
     bracket : Values → Value
-    unknown : ℕ → ℕ → ℕ → Value
+    unknown : ℕ → ℕ → ℕ → ℕ → Value
     deriving Discrete as Value-discrete
 
   -- A list of values. (A `List Value` inside Value is refused; everything else sees lists, through bracketed and contents.)
@@ -48,7 +48,7 @@ contents (char c) = none
 contents (ident s) = none
 contents (num s) = none
 contents (bracket l) = some (toList l)
-contents (unknown k l i) = none
+contents (unknown k l u i) = none
 
 -- A term's value, from the values of the terms below it.
 unfoldable pub valueK : ℕ → List ℕ → Term → List Value → Value
@@ -56,7 +56,7 @@ valueK zero text t below = char (t .a)
 valueK (suc zero) text t below = ident text
 valueK (suc (suc zero)) text t below = num text
 valueK (suc (suc (suc zero))) text t below = bracketed (part below (contentsRun t))
-valueK (suc (suc (suc (suc n)))) text t below = unknown (t .a) (t .b) (t .c)
+valueK (suc (suc (suc (suc n)))) text t below = unknown (t .a) (t .b) (t .d) (t .c)
 
 -- A term's value; its text is the b bytes at a of the names.
 unfoldable pub valueOf : List ℕ → Term → List Value → Value
@@ -75,7 +75,7 @@ unfoldable mutual
   canon (ident s) = ident (map lower s)
   canon (num s) = num (stripped s)
   canon (bracket l) = bracket (canons l)
-  canon (unknown k l i) = unknown k l i
+  canon (unknown k l u i) = unknown k l u i
 
   pub canons : Values → Values
   canons nil = nil
@@ -138,7 +138,7 @@ column (char c) = 0
 column (ident s) = 1
 column (num s) = 2
 column (bracket l) = 3
-column (unknown k l i) = unknownColumn k
+column (unknown k l u i) = unknownColumn k
 
 -- Whether a variable of row s, t or e (0, 1, 2) takes a value; the manual's sections are named at the table.
 unfoldable pub takesRow : ℕ → Value → Bool

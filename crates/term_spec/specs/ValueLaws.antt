@@ -29,7 +29,7 @@ bracketed-contents (char c) l e = cc
 bracketed-contents (ident s) l e = cc
 bracketed-contents (num s) l e = cc
 bracketed-contents (bracket k) l e = let z : toList k ≡ l = cc in cc (from-to k)
-bracketed-contents (unknown k m i) l e = cc
+bracketed-contents (unknown k m u i) l e = cc
 
 pub none-some : {A : Type 0} {x : A} → _≡_ {A = Option A} none (some x) → ⊥
 none-some e = let z : _≡_ {A = ℕ} 0 1 = cc in omega arith
@@ -57,7 +57,7 @@ contents-canon (char c) l e = absurd (none-some e)
 contents-canon (ident s) l e = absurd (none-some e)
 contents-canon (num s) l e = absurd (none-some e)
 contents-canon (bracket k) l e = (toList k, refl, cc (toList-canons k))
-contents-canon (unknown k m i) l e = absurd (none-some e)
+contents-canon (unknown k m u i) l e = absurd (none-some e)
 
 pub bracketed-same : (l m : List Value) → bracketed l ≡ bracketed m → l ≡ m
 bracketed-same l m e = let z : some l ≡ some m = sym (contents-bracketed l) ∙ ap contents e ∙ contents-bracketed m in cc
@@ -83,7 +83,7 @@ column-canon (char c) = refl
 column-canon (ident s) = refl
 column-canon (num s) = refl
 column-canon (bracket l) = refl
-column-canon (unknown k m i) = refl
+column-canon (unknown k m u i) = refl
 
 pub equal-columns : (v w : Value) → Equal v w → column v ≡ column w
 equal-columns v w e = sym (column-canon v) ∙ ap column e ∙ column-canon w
@@ -124,8 +124,8 @@ bySymbol (char c) = true
 bySymbol (ident s) = true
 bySymbol (num s) = true
 bySymbol (bracket l) = false
-bySymbol (unknown zero l i) = true
-bySymbol (unknown (suc k) l i) = false
+bySymbol (unknown zero l u i) = true
+bySymbol (unknown (suc k) l u i) = false
 
 -- "t takes all but the expression unknown"
 unfoldable pub byTerm : Value → Bool
@@ -133,9 +133,9 @@ byTerm (char c) = true
 byTerm (ident s) = true
 byTerm (num s) = true
 byTerm (bracket l) = true
-byTerm (unknown zero l i) = true
-byTerm (unknown (suc zero) l i) = true
-byTerm (unknown (suc (suc k)) l i) = false
+byTerm (unknown zero l u i) = true
+byTerm (unknown (suc zero) l u i) = true
+byTerm (unknown (suc (suc k)) l u i) = false
 
 pub symbol-takes : (v : Value) → takes symbol v ≡ bySymbol v
 unfolding takes takesRow row takesTable column unknownColumn bySymbol
@@ -143,10 +143,10 @@ symbol-takes (char c) = refl
 symbol-takes (ident s) = refl
 symbol-takes (num s) = refl
 symbol-takes (bracket l) = refl
-symbol-takes (unknown zero l i) = refl
-symbol-takes (unknown (suc zero) l i) = refl
-symbol-takes (unknown (suc (suc zero)) l i) = refl
-symbol-takes (unknown (suc (suc (suc k))) l i) = refl
+symbol-takes (unknown zero l u i) = refl
+symbol-takes (unknown (suc zero) l u i) = refl
+symbol-takes (unknown (suc (suc zero)) l u i) = refl
+symbol-takes (unknown (suc (suc (suc k))) l u i) = refl
 
 pub term-takes : (v : Value) → takes term v ≡ byTerm v
 unfolding takes takesRow row takesTable column unknownColumn byTerm
@@ -154,10 +154,10 @@ term-takes (char c) = refl
 term-takes (ident s) = refl
 term-takes (num s) = refl
 term-takes (bracket l) = refl
-term-takes (unknown zero l i) = refl
-term-takes (unknown (suc zero) l i) = refl
-term-takes (unknown (suc (suc zero)) l i) = refl
-term-takes (unknown (suc (suc (suc k))) l i) = refl
+term-takes (unknown zero l u i) = refl
+term-takes (unknown (suc zero) l u i) = refl
+term-takes (unknown (suc (suc zero)) l u i) = refl
+term-takes (unknown (suc (suc (suc k))) l u i) = refl
 
 -- "e takes all": every value that a term within the rules can have
 unfoldable pub Lawful : Value → Type 0
@@ -165,10 +165,10 @@ Lawful (char c) = Unit {0}
 Lawful (ident s) = Unit {0}
 Lawful (num s) = Unit {0}
 Lawful (bracket l) = Unit {0}
-Lawful (unknown zero l i) = Unit {0}
-Lawful (unknown (suc zero) l i) = Unit {0}
-Lawful (unknown (suc (suc zero)) l i) = Unit {0}
-Lawful (unknown (suc (suc (suc k))) l i) = ⊥
+Lawful (unknown zero l u i) = Unit {0}
+Lawful (unknown (suc zero) l u i) = Unit {0}
+Lawful (unknown (suc (suc zero)) l u i) = Unit {0}
+Lawful (unknown (suc (suc (suc k))) l u i) = ⊥
 
 pub expression-takes : (v : Value) → Lawful v → takesRow 2 v ≡ true
 unfolding takesRow takesTable column unknownColumn Lawful
@@ -176,7 +176,7 @@ expression-takes (char c) h = refl
 expression-takes (ident s) h = refl
 expression-takes (num s) h = refl
 expression-takes (bracket l) h = refl
-expression-takes (unknown zero l i) h = refl
-expression-takes (unknown (suc zero) l i) h = refl
-expression-takes (unknown (suc (suc zero)) l i) h = refl
-expression-takes (unknown (suc (suc (suc k))) l i) h = absurd h
+expression-takes (unknown zero l u i) h = refl
+expression-takes (unknown (suc zero) l u i) h = refl
+expression-takes (unknown (suc (suc zero)) l u i) h = refl
+expression-takes (unknown (suc (suc (suc k))) l u i) h = absurd h

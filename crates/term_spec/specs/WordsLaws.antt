@@ -34,8 +34,9 @@ term-keeps [] h = absurd (omega arith)
 term-keeps (a ∷ []) h = absurd (omega arith)
 term-keeps (a ∷ b ∷ []) h = absurd (omega arith)
 term-keeps (a ∷ b ∷ c ∷ []) h = absurd (omega arith)
-term-keeps (a ∷ b ∷ c ∷ d ∷ []) h = refl
-term-keeps (a ∷ b ∷ c ∷ d ∷ e ∷ w) h = absurd (omega arith)
+term-keeps (a ∷ b ∷ c ∷ d ∷ []) h = absurd (omega arith)
+term-keeps (a ∷ b ∷ c ∷ d ∷ e ∷ []) h = refl
+term-keeps (a ∷ b ∷ c ∷ d ∷ e ∷ f ∷ w) h = absurd (omega arith)
 
 part-of-sum : (k n w : ℕ) → suc k * w ≤ n → (w ≤ n) × (k * w ≤ n - w)
 part-of-sum k n w h = let e = suc-mul k w in (omega arith, omega arith)

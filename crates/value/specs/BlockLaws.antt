@@ -13,7 +13,7 @@ use Rattle.term_spec.specs.ListLaws.{zeros-at}
 use Rattle.term_spec.specs.Words.{decode, recordAt}
 use Rattle.term_spec.specs.WordsLaws.{decode-snoc, record-drop}
 use Rattle.term_spec.specs.Term.{Term, termLayout, bracketKind, depthLimit, depthK, deepest, termRule}
-use Rattle.term_spec.specs.TermLaws.{bracket-of}
+use Rattle.term_spec.specs.TermLaws.{bracket-of, rule-by-kind}
 use Rattle.value.specs.Check.{runOf}
 use Rattle.value.specs.CheckLaws.{depth-bracket, depth-other}
 use Rattle.value.specs.Blocks.{lowBlock, highBlock, Whole, Blocks, deepened, Filled, Tables}
@@ -135,9 +135,8 @@ module _ (w : List ℕ) where
 
 -- a term that keeps the rule is at most 255 deep, so that a byte has its depth
 pub depth-small : (names : List ℕ) (below : List Term) (t : Term) → true ≡ termRule names below t → depthK (t .kind) t ≤ depthLimit
-unfolding termRule
 depth-small names below t h = go (ℕ-discrete (t .kind) bracketKind)
   where
     go : Dec (t .kind ≡ bracketKind) → depthK (t .kind) t ≤ depthLimit
-    go (yes e) = omega (arith, depth-bracket (t .kind) t e, (bracket-of (t .kind) names below t e (true-T _ (sym h))) .shallow)
+    go (yes e) = omega (arith, depth-bracket (t .kind) t e, (bracket-of (t .kind) names below t e (rule-by-kind names below t (true-T _ (sym h)))) .shallow)
     go (no n) = omega (arith, depth-other (t .kind) t n)

@@ -14,7 +14,7 @@ use Rattle.term_spec.specs.WordsLaws.{decode-at, decode-length, decode-part, de
 use Rattle.term_spec.specs.Text.{textRule}
 use Rattle.term_spec.specs.Refusal.{uneven, badTerm}
 use Rattle.term_spec.specs.Term.{Term, noTerm, termLayout, charKind, numberKind, bracketKind, unknownKind, expressionUnknown, limit, depthLimit}
-use Rattle.term_spec.specs.Term.{isScalar, depthK, deepest, bracketRule, symbolRule, termRuleK, termRule, termsRule}
+use Rattle.term_spec.specs.Term.{isScalar, depthK, deepest, bracketRule, symbolRule, termRuleK, upperRule, termRule, termsRule}
 use Rattle.text.specs.Texts.{spelling}
 use Rattle.value.specs.Check.{runOf, unless, termsCounts, termsNumber}
 
@@ -75,6 +75,12 @@ module _ (names : List ℕ) where
   symbol-none (suc (suc zero)) a b c h = absurd (omega arith)
   symbol-none (suc (suc (suc k))) a b c h = refl
 
+pub upper-unknown : (t : Term) → t .kind ≡ unknownKind → true ≡ upperRule t
+upper-unknown t e = rw (eq-eqb (t .kind) unknownKind e) refl
+
+pub upper-other : (t : Term) → (t .kind ≡ unknownKind → ⊥) → eqb (t .d) 0 ≡ upperRule t
+upper-other t n = rw (ne-eqb (t .kind) unknownKind n) refl
+
 module _ (names : List ℕ) (below : List Term) where
   symbols : (k : ℕ) (t : Term) → k < bracketKind → termRuleK k names below t ≡ symbolRule k names (t .a) (t .b) (t .c)
   unfolding termRuleK
@@ -92,21 +98,30 @@ module _ (names : List ℕ) (below : List Term) where
   others (suc (suc (suc (suc zero)))) t h = absurd (omega arith)
   others (suc (suc (suc (suc (suc k))))) t h = refl
 
-  pub term-symbol : (t : Term) → t .kind < bracketKind → symbolRule (t .kind) names (t .a) (t .b) (t .c) ≡ termRule names below t
+  pub term-upper : (t : Term) {r : Bool} → r ≡ upperRule t → r ≡ false → false ≡ termRule names below t
   unfolding termRule
-  term-symbol t h = sym (symbols (t .kind) t h)
+  term-upper t e f = let u = sym e ∙ f in rw u refl
 
-  pub term-bracket : (t : Term) → t .kind ≡ bracketKind → bracketRule below t ≡ termRule names below t
-  unfolding termRule termRuleK
-  term-bracket t e = rw e refl
+  -- the fifth word is as it should be: the kind decides
+  module _ (t : Term) {r : Bool} (answer : r ≡ upperRule t) (good : r ≡ true) where
+    u : upperRule t ≡ true
+    u = sym answer ∙ good
 
-  pub term-unknown : (t : Term) → t .kind ≡ unknownKind → leb (t .a) expressionUnknown ≡ termRule names below t
-  unfolding termRule termRuleK
-  term-unknown t e = rw e refl
+    pub term-symbol : t .kind < bracketKind → symbolRule (t .kind) names (t .a) (t .b) (t .c) ≡ termRule names below t
+    unfolding termRule
+    term-symbol h = rw u (sym (symbols (t .kind) t h))
 
-  pub term-none : (t : Term) → unknownKind < t .kind → false ≡ termRule names below t
-  unfolding termRule
-  term-none t h = sym (others (t .kind) t h)
+    pub term-bracket : t .kind ≡ bracketKind → bracketRule below t ≡ termRule names below t
+    unfolding termRule termRuleK
+    term-bracket e = rw (u, e) refl
+
+    pub term-unknown : t .kind ≡ unknownKind → leb (t .a) expressionUnknown ≡ termRule names below t
+    unfolding termRule termRuleK
+    term-unknown e = rw (u, e) refl
+
+    pub term-none : unknownKind < t .kind → false ≡ termRule names below t
+    unfolding termRule
+    term-none h = rw u (sym (others (t .kind) t h))
 
 -- ---- the terms of a store, from term i on ----
 

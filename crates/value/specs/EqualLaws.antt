@@ -16,8 +16,8 @@ use Rattle.term_spec.specs.WordsLaws.{term-lays, count-fits, decode-length, dec
 use Rattle.term_spec.specs.Text.{identifierText, numberText, textAt, textRule}
 use Rattle.term_spec.specs.Refusal.{uneven, badTerm}
 use Rattle.term_spec.specs.Term.{Term, termLayout, noTerm, part, charKind, identifierKind, numberKind, bracketKind, unknownKind, limit}
-use Rattle.term_spec.specs.Term.{contentsRun, depthK, deepest, symbolRule, termRuleK, termRule, termsRule}
-use Rattle.term_spec.specs.TermLaws.{BracketFacts, bracket-of, term-at, values-length}
+use Rattle.term_spec.specs.Term.{contentsRun, depthK, deepest, symbolRule, termRuleK, termsRule}
+use Rattle.term_spec.specs.TermLaws.{BracketFacts, bracket-of, rule-by-kind, term-at, values-length}
 use Rattle.term_spec.specs.TableLaws.{table-at}
 use Rattle.term_spec.specs.Value.{Value, char, unknown, bracketed, valueK, valueOf, values, canon, forms, column, unknownColumn, heads?, list?, same?, sames?, isYes}
 use Rattle.term_spec.specs.ValueLaws.{canon-bracketed, equal-brackets, equal-columns, is-yes, is-no, alike}
@@ -58,8 +58,8 @@ decides : {P : Type 0} (d : Dec P) (b : Bool) → (P → T b) → (T b → P) �
 decides d true f g = is-yes d (g tt)
 decides d false f g = is-no d f
 
-unknowns : {a b c x y z : ℕ} → a ≡ x → b ≡ y → c ≡ z → unknown a b c ≡ unknown x y z
-unknowns p q r i = unknown (p i) (q i) (r i)
+unknowns : {a b d c x y w z : ℕ} → a ≡ x → b ≡ y → d ≡ w → c ≡ z → unknown a b d c ≡ unknown x y w z
+unknowns p q s r i = unknown (p i) (q i) (s i) (r i)
 
 text-lies : (k : ℕ) (names : List ℕ) (t : Term) → identifierKind ≤ k → k ≤ numberKind → InNames k names t → t .a + t .b ≤ length names
 unfolding InNames
@@ -88,7 +88,7 @@ module _ (names : List ℕ) (t u : Term) where
   module _ (same : t .kind ≡ u .kind) (n₁ : t .kind ≡ identifierKind → ⊥) (n₂ : t .kind ≡ numberKind → ⊥) (n₃ : t .kind ≡ bracketKind → ⊥) where
     by-kind : (k : ℕ) → k ≡ t .kind
         → isYes (same? (canon (valueK k (textAt names (t .a) (t .b)) t [])) (canon (valueK k (textAt names (u .a) (u .b)) u [])))
-        ≡ eqb (t .a) (u .a) && (eqb k charKind || eqb (t .b) (u .b) && eqb (t .c) (u .c))
+        ≡ eqb (t .a) (u .a) && (eqb k charKind || eqb (t .b) (u .b) && (eqb (t .c) (u .c) && eqb (t .d) (u .d)))
     unfolding valueK canon
     by-kind zero e =
         decides _ _ (λ q. and-of (eqb (t .a) (u .a)) true (eq→eqb (t .a) (u .a) (cc)) tt) (λ h. ap char (eqb→eq _ _ (both-of (eqb (t .a) (u .a)) true h .0)))
@@ -99,14 +99,17 @@ module _ (names : List ℕ) (t u : Term) where
         rw (eqb·suc-zero (suc (suc (suc k))))
         (decides _ _
         (λ q.
-        and-of (eqb (t .a) (u .a)) (eqb (t .b) (u .b) && eqb (t .c) (u .c)) (eq→eqb (t .a) (u .a) (cc))
-        (and-of (eqb (t .b) (u .b)) (eqb (t .c) (u .c)) (eq→eqb (t .b) (u .b) (cc)) (eq→eqb (t .c) (u .c) (cc))))
+        and-of (eqb (t .a) (u .a)) (eqb (t .b) (u .b) && (eqb (t .c) (u .c) && eqb (t .d) (u .d))) (eq→eqb (t .a) (u .a) (cc))
+        (and-of (eqb (t .b) (u .b)) (eqb (t .c) (u .c) && eqb (t .d) (u .d)) (eq→eqb (t .b) (u .b) (cc))
+        (and-of (eqb (t .c) (u .c)) (eqb (t .d) (u .d)) (eq→eqb (t .c) (u .c) (cc)) (eq→eqb (t .d) (u .d) (cc)))))
         (λ h.
-        let (x, yz) = both-of (eqb (t .a) (u .a)) (eqb (t .b) (u .b) && eqb (t .c) (u .c)) h in
-        let (y, z) = both-of (eqb (t .b) (u .b)) (eqb (t .c) (u .c)) yz in
-        unknowns (eqb→eq _ _ x) (eqb→eq _ _ y) (eqb→eq _ _ z)))
+        let (x, yzw) = both-of (eqb (t .a) (u .a)) (eqb (t .b) (u .b) && (eqb (t .c) (u .c) && eqb (t .d) (u .d))) h in
+        let (y, zw) = both-of (eqb (t .b) (u .b)) (eqb (t .c) (u .c) && eqb (t .d) (u .d)) yzw in
+        let (z, w) = both-of (eqb (t .c) (u .c)) (eqb (t .d) (u .d)) zw in
+        unknowns (eqb→eq _ _ x) (eqb→eq _ _ y) (eqb→eq _ _ w) (eqb→eq _ _ z)))
 
-    symbols-other : equalSymbols names t u ≡ eqb (t .a) (u .a) && (eqb (t .kind) charKind || eqb (t .b) (u .b) && eqb (t .c) (u .c))
+    symbols-other : equalSymbols names t u
+        ≡ eqb (t .a) (u .a) && (eqb (t .kind) charKind || eqb (t .b) (u .b) && (eqb (t .c) (u .c) && eqb (t .d) (u .d)))
     unfolding equalSymbols valueOf
     symbols-other =
         ap (λ k. isYes (same? (canon (valueOf names t [])) (canon (valueK k (textAt names (u .a) (u .b)) u [])))) (sym same)
@@ -119,11 +122,17 @@ module _ (names : List ℕ) (t u : Term) where
     symbols-chars z e = sym (symbols-other ∙ rw (eq-eqb (t .a) (u .a) e, eq-eqb (t .kind) charKind z) refl)
 
     module _ (n₀ : t .kind ≡ charKind → ⊥) (e : t .a ≡ u .a) where
-      pub symbols-levels : (t .b ≡ u .b → ⊥) → false ≡ equalSymbols names t u
-      symbols-levels n = sym (symbols-other ∙ rw (eq-eqb (t .a) (u .a) e, ne-eqb (t .kind) charKind n₀, ne-eqb (t .b) (u .b) n) refl)
+      pub symbols-lower : (t .b ≡ u .b → ⊥) → false ≡ equalSymbols names t u
+      symbols-lower n = sym (symbols-other ∙ rw (eq-eqb (t .a) (u .a) e, ne-eqb (t .kind) charKind n₀, ne-eqb (t .b) (u .b) n) refl)
 
-      pub symbols-indices : t .b ≡ u .b → eqb (t .c) (u .c) ≡ equalSymbols names t u
-      symbols-indices f = sym (symbols-other ∙ rw (eq-eqb (t .a) (u .a) e, ne-eqb (t .kind) charKind n₀, eq-eqb (t .b) (u .b) f) refl)
+      module _ (f : t .b ≡ u .b) where
+        pub symbols-indices : (t .c ≡ u .c → ⊥) → false ≡ equalSymbols names t u
+        symbols-indices n =
+            sym (symbols-other ∙ rw (eq-eqb (t .a) (u .a) e, ne-eqb (t .kind) charKind n₀, eq-eqb (t .b) (u .b) f, ne-eqb (t .c) (u .c) n) refl)
+
+        pub symbols-upper : t .c ≡ u .c → eqb (t .d) (u .d) ≡ equalSymbols names t u
+        symbols-upper g =
+            sym (symbols-other ∙ rw (eq-eqb (t .a) (u .a) e, ne-eqb (t .kind) charKind n₀, eq-eqb (t .b) (u .b) f, eq-eqb (t .c) (u .c) g) refl)
 
 -- Two lists with first entries: equal by these and the rest.
 heads-yes : {A : Type 0} {x y : A} {xs ys : List A} (d : Dec (x ≡ y)) (e : Dec (xs ≡ ys)) → isYes (heads? d e) ≡ isYes d && isYes e
@@ -204,10 +213,9 @@ module _ (names w : List ℕ) (used : ℕ) where
 
   module _ (store : TermStore names w used) where
     rule-at : (i : ℕ) (t : Term) → i < used → t ≡ recordAt termLayout w i → T (termRuleK (t .kind) names (decode termLayout i w) t)
-    unfolding termRule
     rule-at i t lt e =
-        let r : T (termRule names (take i (decode termLayout used w)) (getD (decode termLayout used w) i noTerm))
-        = term-at names [] (decode termLayout used w) i (store .good) (omega (arith, decode-length termLayout used w)) in
+        let ts = decode termLayout used w in
+        let r = rule-by-kind names (take i ts) (getD ts i noTerm) (term-at names [] ts i (store .good) (omega (arith, decode-length termLayout used w))) in
         rw (decode-below termLayout used i w (omega arith), decode-at termLayout used i w noTerm lt, ← e) at r
 
     pub texts-at : (i j : ℕ) (t u : Term) → i < used → j < used → t ≡ recordAt termLayout w i → u ≡ recordAt termLayout w j → Texts names t u

@@ -8,7 +8,7 @@ ghost use Prim.Native.Nat.{_+_, _*_, _/_, _<_, _≤_, max};
 ghost use lib.ListN.{length};
 ghost use Rattle.term_spec.specs.Words.{Lies, decode};
 ghost use Rattle.term_spec.specs.Term.{termLayout, bracketKind, limit, depthLimit, isScalar, depthK, deepest as deepestOf};
-ghost use Rattle.term_spec.specs.Term.{bracketRule, symbolRule, termRule, termsRule};
+ghost use Rattle.term_spec.specs.Term.{bracketRule, symbolRule, upperRule, termRule, termsRule};
 ghost use Rattle.words.specs.Records.{asTerm};
 ghost use Rattle.value.specs.Check.{runOf, termsNumber};
 ghost use Rattle.value.specs.Blocks.{lowBlock, highBlock, Covers, Blocks, deepened, Tables};
@@ -196,12 +196,25 @@ fn bracket_ok(terms: &[u32], low: &[u8], high: &[u8], i: usize, t: Term) -> bool
     t.c <= DEPTH_LIMIT
 }
 
+// The fifth word: the upper half of an unknown's level, 0 of any other term.
+fn upper_ok(t: Term) -> bool
+    ensures { λ r. ⌜ r ≡ upperRule (asTerm t) ⌝ }
+{
+    if t.kind != words::UNKNOWN {
+        return t.d == 0;
+    }
+    true
+}
+
 // The rule of a term with number i among those below it.
 fn term_ok(names: &[u8], terms: &[u32], low: &[u8], high: &[u8], i: usize, t: Term) -> bool
     requires lies { ⌜ Lies termLayout (now terms) i ⌝ }
     requires blocks { ⌜ Blocks (now terms) i (now low) (now high) ⌝ }
     ensures { λ r. ⌜ r ≡ termRule (now (names .entry)) (decode termLayout i (now (terms .entry))) (asTerm t) ⌝ }
 {
+    if !upper_ok(t) {
+        return false;
+    }
     if t.kind < words::BRACKET {
         return symbol_ok(names, t);
     }
@@ -294,7 +307,10 @@ pub fn equal_symbols(names: &[u8], t: Term, u: Term) -> bool
     if t.b != u.b {
         return false;
     }
-    t.c == u.c
+    if t.c != u.c {
+        return false;
+    }
+    t.d == u.d
 }
 
 // Whether a literal of a pattern (kinds 0 to 2) and a term are equal. An unknown or a bracket is none.

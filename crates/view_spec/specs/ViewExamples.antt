@@ -276,7 +276,7 @@ ranges = (refl, refl)
 -- ---- flatten and settling ----
 
 abbrev term : ℕ → Term
-term c = record { kind = 0; a = c; b = 0; c = 0 }
+term c = record { kind = 0; a = c; b = 0; c = 0; d = 0 }
 
 -- The fields, and where each stands: one run; its first two terms; length 0, of a run and of a Concat; a chain, though its first run
 -- has the terms; a Concat, and a clamped one.

@@ -8,7 +8,7 @@ use Rattle.words.specs.declared.Run.{Run}
 
 -- A term of the code, as the specification has it.
 abbrev pub asTerm : Term → SpecTerm
-asTerm t = record { kind = t .kind; a = t .a; b = t .b; c = t .c }
+asTerm t = record { kind = t .kind; a = t .a; b = t .b; c = t .c; d = t .d }
 
 -- Every field fits a word.
 pub record Small (t : Term) : Type 0 where
@@ -16,6 +16,7 @@ pub record Small (t : Term) : Type 0 where
   pub a : t .a < 2 ^ 32
   pub b : t .b < 2 ^ 32
   pub c : t .c < 2 ^ 32
+  pub d : t .d < 2 ^ 32
 
 -- A node of the code, as the specification has it.
 abbrev pub asNode : Node → SpecNode

@@ -16,6 +16,7 @@ pub struct Term {
     pub a: usize,
     pub b: usize,
     pub c: usize,
+    pub d: usize,
 }
 
 // One node, its words widened.
@@ -62,7 +63,7 @@ pub const CONS: usize = 1;
 pub const CONCAT: usize = 2;
 
 // The widths of a term record, of a node record and of a run, in words.
-pub const TERM_WIDTH: usize = 4;
+pub const TERM_WIDTH: usize = 5;
 
 pub const NODE_WIDTH: usize = 6;
 
@@ -101,6 +102,7 @@ pub fn get_term(terms: &[u32], i: usize) -> Term
         a: word(terms, p + 1),
         b: word(terms, p + 2),
         c: word(terms, p + 3),
+        d: word(terms, p + 4),
     }
 }
 
@@ -114,6 +116,7 @@ pub fn put_term(terms: &mut [u32], i: usize, t: Term)
     set_word(terms, p + 1, t.a);
     set_word(terms, p + 2, t.b);
     set_word(terms, p + 3, t.c);
+    set_word(terms, p + 4, t.d);
 }
 
 // Node i.

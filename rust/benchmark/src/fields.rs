@@ -5,6 +5,7 @@ use crate::port::{self, Call, Field, Store};
 use crate::report::{Line, Report};
 use crate::ropes::{self, Plain, Port, Steps};
 use crate::timing::{self, ListTimes, Timed, TimedList};
+use naldrev::TERM_WIDTH;
 use original::value::ViewField;
 use std::hint::black_box;
 
@@ -37,9 +38,9 @@ impl Building {
     fn agree(&mut self, calls: usize) -> bool {
         let mut times = ListTimes::default();
         let made = self.build(&mut times);
-        let (mut work, mut out) = (vec![0; 4 * made.len], [0; 3]);
+        let (mut work, mut out) = (vec![0; TERM_WIDTH * made.len], [0; 3]);
         assert_eq!(port::read(&self.store, &Call::Flatten(made, Vec::new()), &mut work, &mut out), 0, "flatten");
-        let shown = if out[0] == 1 { &work[..] } else { &self.store.terms[4 * out[1]..4 * (out[1] + out[2])] };
+        let shown = if out[0] == 1 { &work[..] } else { &self.store.terms[TERM_WIDTH * out[1]..][..TERM_WIDTH * out[2]] };
         times.calls() == calls && values(&self.store.names, shown) == self.rust().to_values()
     }
 }

@@ -1,6 +1,7 @@
 //! Inputs for both sides, each written once as a text: the port's words, and the same terms as values of the Rust.
 use crate::plain::values::values;
 use crate::port::{self, Call, Field, Store};
+use naldrev::TERM_WIDTH;
 use original::value::{Slice, ViewField};
 use refal_ast::{Symbol, Term, TermKind, Variable, VariableKind};
 use std::collections::HashMap;
@@ -62,6 +63,7 @@ pub struct Draft {
 }
 
 impl Draft {
+    /// A record of a pattern, and the words of a term but for its fifth.
     fn named(&mut self, kind: u32, name: &str) -> [u32; 4] {
         let end = self.names.len() as u32;
         let offset = *self.offsets.entry(name.to_string()).or_insert(end);
@@ -72,10 +74,10 @@ impl Draft {
     }
 
     /// The records of a level; contents of brackets go to the store, before the brackets.
-    fn level(&mut self, tokens: &mut std::vec::IntoIter<Token>) -> Vec<[u32; 4]> {
+    fn level(&mut self, tokens: &mut std::vec::IntoIter<Token>) -> Vec<[u32; TERM_WIDTH]> {
         let mut records = Vec::new();
         while let Some(token) = tokens.next() {
-            records.push(match token {
+            let [kind, a, b, c] = match token {
                 Token::Char(c) => [0, c as u32, 0, 0],
                 Token::Identifier(name) => self.named(1, name),
                 Token::Number(digits) => self.named(2, digits),
@@ -87,13 +89,15 @@ impl Draft {
                 }
                 Token::Close => break,
                 Token::Variable(..) => panic!("a variable is no term"),
-            });
+            };
+            // The fifth word is an unknown's alone.
+            records.push([kind, a, b, c, 0]);
         }
         records
     }
 
-    fn append(&mut self, records: &[[u32; 4]]) -> (usize, usize) {
-        let start = self.terms.len() / 4;
+    fn append(&mut self, records: &[[u32; TERM_WIDTH]]) -> (usize, usize) {
+        let start = self.terms.len() / TERM_WIDTH;
         self.terms.extend(records.iter().flatten());
         (start, records.len())
     }
@@ -132,8 +136,8 @@ impl Draft {
     /// Both sides' stores, the port's with room for more terms and nodes.
     pub fn sides(self, room: usize, nodes: usize) -> Sides {
         let arena = Slice::owned(values(&self.names, &self.terms));
-        let (used, mut terms) = (self.terms.len() / 4, self.terms);
-        terms.resize(4 * (used + room), 0);
+        let (used, mut terms) = (self.terms.len() / TERM_WIDTH, self.terms);
+        terms.resize(TERM_WIDTH * (used + room), 0);
         let store = Store { names: self.names, terms, terms_used: used, nodes: vec![0; 6 * (1 + nodes)], nodes_used: 1 };
         Sides { store, arena }
     }

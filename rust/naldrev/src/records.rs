@@ -1,7 +1,7 @@
 //! The records of words: their widths, their kinds and their limits, as docs/REFERENCE.md in the repository has them.
 
-/// The words of a term: kind, a, b, c.
-pub const TERM_WIDTH: usize = 4;
+/// The words of a term: kind, a, b, c, d.
+pub const TERM_WIDTH: usize = 5;
 /// The words of a node.
 pub const NODE_WIDTH: usize = 6;
 /// The words of a run: start and length.
@@ -51,6 +51,18 @@ pub(crate) mod item {
     pub(crate) const E_VARIABLE: u32 = 7;
     pub(crate) const CALL: u32 = 8;
     pub(crate) const BLOCK: u32 = 9;
+}
+
+// ---- levels ----
+
+/// The words b and d of an unknown of this level: its lower and its upper half.
+pub(crate) fn level_words(level: u64) -> [u32; 2] {
+    [level as u32, (level >> 32) as u32]
+}
+
+/// The level of an unknown with these words b and d.
+pub(crate) fn level_of([lower, upper]: [u32; 2]) -> u64 {
+    u64::from(upper) << 32 | u64::from(lower)
 }
 
 // ---- texts ----

@@ -8,14 +8,14 @@ pub const SHEET_TERMS: usize = 512;
 /// The most bytes of names of a sheet.
 pub const SHEET_NAMES: usize = 4096;
 /// The bytes of the longest sheet.
-const SHEET: usize = 38_250;
+const SHEET: usize = 43_370;
 /// The bytes of the longest answer.
 const ANSWER: usize = 42_025;
 
 /// What a sheet holds. Reading and writing check its form and its limits; whether the records keep their rules is found by [`run_sheet`].
 #[derive(Clone, Debug, Default, PartialEq, Eq)]
 pub struct Sheet {
-    /// The words of the terms, four to a record; at most 512 records.
+    /// The words of the terms, five to a record; at most 512 records.
     pub terms: Vec<u32>,
     /// The names; at most 4,096 bytes.
     pub names: Vec<u8>,
@@ -67,8 +67,8 @@ mod tests {
 
     /// The sheet examples/dashes.sheet: e.1 '-' e.2 on --
     const TEXT: &str = "         2         2         3         1
-         0        45         0         0
-         0        45         0         0
+         0        45         0         0         0
+         0        45         0         0         0
 12
          7         0         1         0
          0        45         0         0
@@ -78,7 +78,7 @@ mod tests {
 
     fn example() -> Sheet {
         Sheet {
-            terms: vec![0, 45, 0, 0, 0, 45, 0, 0],
+            terms: vec![0, 45, 0, 0, 0, 0, 45, 0, 0, 0],
             names: b"12".to_vec(),
             pattern: vec![7, 0, 1, 0, 0, 45, 0, 0, 7, 1, 1, 0],
             runs: vec![0, 2],
@@ -89,10 +89,10 @@ mod tests {
     fn sheets() -> Vec<Sheet> {
         let words = |n: usize| (0..n).map(|i| u32::MAX.checked_shr(i as u32 % 33).unwrap_or(0)).collect::<Vec<u32>>();
         let sheet = |t: usize, n, p: usize, r: usize| Sheet {
-            terms: words(t * 4),
+            terms: words(t * TERM_WIDTH),
             names: vec![b'\n'; n],
-            pattern: words(p * 4),
-            runs: words(r * 2),
+            pattern: words(p * PATTERN_WIDTH),
+            runs: words(r * RUN_WIDTH),
         };
         vec![Sheet::default(), sheet(1, 0, 0, 0), sheet(0, 1, 0, 0), sheet(0, 0, 1, 1), sheet(7, 9, 3, 5), sheet(512, 4096, 256, 64)]
     }
@@ -134,8 +134,8 @@ mod tests {
         for at in 0..text.len() {
             let mut damaged = text.to_vec();
             damaged[at] = b'x';
-            // The names, after three lines, may be any bytes.
-            if (123..125).contains(&at) {
+            // The names, after a line of 41 bytes and two of 51, may be any bytes.
+            if (143..145).contains(&at) {
                 assert!(Sheet::read(&damaged).is_ok(), "{at}");
             } else {
                 assert_eq!(Sheet::read(&damaged), Err(Refusal::BadSheet), "{at}");
@@ -147,12 +147,13 @@ mod tests {
     #[test]
     fn what_is_no_sheet_is_not_written() {
         let uneven = [
-            Sheet { terms: vec![0; 3], ..Sheet::default() },
-            Sheet { terms: vec![0; 513 * 4], ..Sheet::default() },
+            Sheet { terms: vec![0; 4], ..Sheet::default() },
+            Sheet { terms: vec![0; 513 * TERM_WIDTH], ..Sheet::default() },
             Sheet { names: vec![0; 4097], ..Sheet::default() },
-            Sheet { pattern: vec![0; 257 * 4], ..Sheet::default() },
+            Sheet { pattern: vec![0; 5], ..Sheet::default() },
+            Sheet { pattern: vec![0; 257 * PATTERN_WIDTH], ..Sheet::default() },
             Sheet { runs: vec![0; 1], ..Sheet::default() },
-            Sheet { runs: vec![0; 65 * 2], ..Sheet::default() },
+            Sheet { runs: vec![0; 65 * RUN_WIDTH], ..Sheet::default() },
         ];
         for sheet in uneven {
             assert_eq!(sheet.to_text(), Err(Refusal::Uneven));
@@ -160,11 +161,37 @@ mod tests {
     }
 
     #[test]
+    fn the_fifth_word_of_a_term_is_an_unknowns_alone() {
+        // Where the term keeps its rule, it is not the dash that the pattern asks for.
+        let refused = |term: [u32; TERM_WIDTH], refusal: Refusal| {
+            let sheet = Sheet { terms: term.to_vec(), names: b"a1".to_vec(), runs: vec![0, 1], ..example() };
+            let answer = format!("{:>10}         0         0         0\n", refusal.number());
+            assert_eq!(String::from_utf8(run_sheet(&sheet.to_text().unwrap())).unwrap(), answer, "{term:?}");
+        };
+        for [kind, a, b, c] in [[0, 97, 0, 0], [1, 0, 1, 0], [2, 1, 1, 0], [3, 0, 0, 1]] {
+            refused([kind, a, b, c, 0], Refusal::NoMatch);
+            refused([kind, a, b, c, 1], Refusal::BadTerm);
+            refused([kind, a, b, c, u32::MAX], Refusal::BadTerm);
+        }
+        refused([4, 0, u32::MAX, u32::MAX, u32::MAX], Refusal::NoMatch);
+    }
+
+    #[test]
+    fn a_line_of_four_columns_is_no_term_line() {
+        let four = TEXT.replacen("        45         0         0         0\n", "        45         0         0\n", 1);
+        assert_eq!(Sheet::read(four.as_bytes()), Err(Refusal::BadSheet));
+    }
+
+    #[test]
     fn the_longest_answer() {
         // 64 variables on 80 terms: over 16 candidates, 64 entries each.
         let names: Vec<u8> = (0..64).flat_map(|i| format!("{i:02}").into_bytes()).collect();
-        let sheet =
-            Sheet { terms: [0, 97, 0, 0].repeat(80), names, pattern: (0..64).flat_map(|i| [7, 2 * i, 2, 0]).collect(), runs: vec![0, 80] };
+        let sheet = Sheet {
+            terms: [0, 97, 0, 0, 0].repeat(80),
+            names,
+            pattern: (0..64).flat_map(|i| [7, 2 * i, 2, 0]).collect(),
+            runs: vec![0, 80],
+        };
         let answer = run_sheet(&sheet.to_text().unwrap());
         assert_eq!(answer.len(), ANSWER);
         assert!(answer.starts_with(b"        15        16        64         0\n"));

@@ -38,7 +38,7 @@ pub enum Value {
         /// What it stands for.
         kind: UnknownKind,
         /// Its level.
-        level: u32,
+        level: u64,
         /// Its index.
         index: u32,
     },

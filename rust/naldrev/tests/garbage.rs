@@ -4,7 +4,7 @@
 mod generate;
 
 use generate::Random;
-use naldrev::{e, Bindings, Error, Expression, Field, Pattern, Run, Store};
+use naldrev::{e, Bindings, Error, Expression, Field, Pattern, Run, Store, NODE_WIDTH, TERM_WIDTH};
 
 const STORES: u64 = 4000;
 
@@ -24,22 +24,22 @@ fn words(random: &mut Random, most: usize) -> Vec<u32> {
 
 /// A count that is small, at a limit, or so large that its records have more words than can be counted.
 fn number(random: &mut Random) -> usize {
-    let least = [0, 0, 65_535, usize::MAX / 4 - 1, usize::MAX / 2, usize::MAX - 3][random.below(6)];
+    let least = [0, 0, 65_535, usize::MAX / TERM_WIDTH - 1, usize::MAX / 2, usize::MAX - 3][random.below(6)];
     least + random.below(4)
 }
 
 fn store(random: &mut Random) -> Store {
     let names = words(random, 30).into_iter().map(|word| word as u8).collect();
-    let (mut terms, mut nodes) = (words(random, 40), words(random, 40));
+    let (mut terms, mut nodes) = (words(random, 50), words(random, 40));
     // Mostly whole records of a known kind, and node 0.
     if random.below(4) > 0 {
-        terms.truncate(terms.len() / 4 * 4);
-        terms.iter_mut().step_by(4).for_each(|kind| *kind %= 5);
-        nodes.truncate(nodes.len() / 6 * 6);
-        nodes.iter_mut().take(6).for_each(|word| *word = 0);
+        terms.truncate(terms.len() / TERM_WIDTH * TERM_WIDTH);
+        terms.iter_mut().step_by(TERM_WIDTH).for_each(|kind| *kind %= 5);
+        nodes.truncate(nodes.len() / NODE_WIDTH * NODE_WIDTH);
+        nodes.iter_mut().take(NODE_WIDTH).for_each(|word| *word = 0);
     }
-    let terms_used = if random.below(2) == 0 { terms.len() / 4 } else { number(random) };
-    let nodes_used = if random.below(2) == 0 { nodes.len().min(6) / 6 } else { number(random) };
+    let terms_used = if random.below(2) == 0 { terms.len() / TERM_WIDTH } else { number(random) };
+    let nodes_used = if random.below(2) == 0 { nodes.len().min(NODE_WIDTH) / NODE_WIDTH } else { number(random) };
     Store::from_parts(names, terms, terms_used, nodes, nodes_used)
 }
 

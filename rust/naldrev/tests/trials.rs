@@ -69,6 +69,13 @@ fn unknowns() {
 }
 
 #[test]
+fn unknowns_of_levels_past_32_bits() {
+    assert_eq!(found("s.1 s.1", "?s.18446744073709551615.1 ?s.18446744073709551615.1"), ["s.1[?s.18446744073709551615.1]"]);
+    nowhere("s.1 s.1", "?s.5.1 ?s.4294967301.1");
+    assert_eq!(found("e.1 s.x e.2 s.x e.3", "?s.5.1 ?s.4294967301.1 ?s.4294967301.1"), ["e.1[?s.5.1] s.x[?s.4294967301.1] e.2[] e.3[]"]);
+}
+
+#[test]
 fn numbers_without_leading_zeros_and_identifiers_without_case() {
     assert_eq!(found("7", "007"), [""]);
     assert_eq!(found("000", "0"), [""]);

@@ -11,7 +11,8 @@ use Rattle.value.specs.EqualLaws.{depthAt, deepestIn, depth-inside, runs-length
 use Rattle.words.specs.Records.{asTerm, asRun}
 use Rattle.equality.specs.Known.{TermsIn, RunsIn, sameRuns, Tells}
 use Rattle.equality.specs.KnownLaws.{tells-different, tells-equal}
-use Rattle.equality.specs.TwoLaws.{Two, two-differ, two-texts, two-symbols, two-brackets, two-contents, two-shallow, terms-inside, runs-next}
+use Rattle.equality.specs.TwoLaws.{Two, two-differ, two-texts, two-symbols, two-chars, two-chars-apart, two-brackets, two-contents, two-shallow, terms-inside}
+use Rattle.equality.specs.TwoLaws.{runs-next}
 use Rattle.equality.proofs.equal_runs_within.Reads as runs
 use Rattle.equality.proofs.equal_runs_within.Kinds as runs-kinds
 use Rattle.equality.proofs.+equal_runs_within+equal_terms_within.Lts-equal_runs_within as runs-lts
@@ -130,47 +131,61 @@ terms-returns : (t : ℕ) → terms-lts.Need-returns (Terms t) (terms-at t) term
 unfolding Tells
 terms-returns t c used lies = sym (two-differ (two t (c .before .before .before) lies) (c .if1 .taken))
 
+terms-returns-2 : (t : ℕ) → terms-lts.Need-returns-2 (Terms t) (terms-at t) terms.Post
+unfolding Tells
+terms-returns-2 t c used lies =
+    let at-if2 = c .before .before .before in
+    let at-if1 = at-if2 .before .before in
+    two-chars-apart (two t (at-if1 .before .before .before) lies) (at-if2 .if2 .taken) (at-if1 .if1 .left) (c .if3 .taken)
+
+terms-returns-3 : (t : ℕ) → terms-lts.Need-returns-3 (Terms t) (terms-at t) terms.Post
+unfolding Tells
+terms-returns-3 t c used lies =
+    let at-if2 = c .before .before .before in
+    let at-if1 = at-if2 .before .before in
+    two-chars (two t (at-if1 .before .before .before) lies) (at-if2 .if2 .taken) (at-if1 .if1 .left) (c .if3 .left)
+
 terms-equal-runs-within-requires : (t : ℕ) → terms-lts.Need-equal-runs-within-requires (Terms t) (terms-at t) terms.Post
 terms-equal-runs-within-requires t c κs =
-    let at-if1 = c .before .before in
+    let at-if1 = c .before .before .before .before in
     let at-read = at-if1 .before .before .before in
     let at-start = at-read .before .before .before .before in
     let asked = at-start .pre .1 in
     let here = two t at-read (asked .1) in
-    let less = two-shallow here (c .if2 .taken) (at-if1 .if1 .left) in
-    (omega (arith, at-start .pre .0), (asked .0, two-contents here (c .if2 .taken) (at-if1 .if1 .left)))
+    let less = two-shallow here (c .if4 .taken) (at-if1 .if1 .left) in
+    (omega (arith, at-start .pre .0), (asked .0, two-contents here (c .if4 .taken) (at-if1 .if1 .left)))
 
-terms-returns-2 : (t : ℕ) → terms-lts.Need-returns-2 (Terms t) (terms-at t) terms.Post
-terms-returns-2 t c used lies =
-    let at-if2 = c .before in
-    let at-if1 = at-if2 .before .before in
+terms-returns-4 : (t : ℕ) → terms-lts.Need-returns-4 (Terms t) (terms-at t) terms.Post
+terms-returns-4 t c used lies =
+    let at-if4 = c .before in
+    let at-if1 = at-if4 .before .before .before .before in
     let here = two t (at-if1 .before .before .before) lies in
-    let contents = two-contents here (at-if2 .if2 .taken) (at-if1 .if1 .left) in
-    rw (two-brackets here (at-if2 .if2 .taken) (at-if1 .if1 .left)) at (c .equal-runs-within .ensures used contents)
+    let contents = two-contents here (at-if4 .if4 .taken) (at-if1 .if1 .left) in
+    rw (two-brackets here (at-if4 .if4 .taken) (at-if1 .if1 .left)) at (c .equal-runs-within .ensures used contents)
 
 terms-equal-symbols-requires : (t : ℕ) → terms-lts.Need-equal-symbols-requires (Terms t) (terms-at t) terms.Post
 terms-equal-symbols-requires t c κs =
-    let at-if1 = c .before .before in
+    let at-if1 = c .before .before .before .before in
     let at-read = at-if1 .before .before .before in
-    (two-texts (two t at-read (at-read .before .before .before .before .pre .1 .1)), (at-if1 .if1 .left, c .if2 .left))
+    (two-texts (two t at-read (at-read .before .before .before .before .pre .1 .1)), (at-if1 .if1 .left, c .if4 .left))
 
 -- what equality of symbols says of the two terms
 symbols : (t : ℕ) (c : terms-lts.After-equal-symbols (Terms t) (terms-at t) terms.Post) {used : ℕ} →
-    let given = c .before .before .before .before .before .before .before .before .before .before .args in
+    let given = c .before .before .before .before .before .before .before .before .before .before .before .before .args in
     TermsIn (given .names .now) (given .terms .now) (given .i) (given .j) used
     → c .equal-symbols .result ≡ equalAt (given .names .now) (given .terms .now) used (given .i) (given .j)
 symbols t c lies =
-    let at-if2 = c .before in
-    let at-if1 = at-if2 .before .before in
-    c .equal-symbols .ensures ∙ two-symbols (two t (at-if1 .before .before .before) lies) (at-if1 .if1 .left) (at-if2 .if2 .left)
+    let at-if4 = c .before in
+    let at-if1 = at-if4 .before .before .before .before in
+    c .equal-symbols .ensures ∙ two-symbols (two t (at-if1 .before .before .before) lies) (at-if1 .if1 .left) (at-if4 .if4 .left)
 
-terms-returns-3 : (t : ℕ) → terms-lts.Need-returns-3 (Terms t) (terms-at t) terms.Post
+terms-returns-5 : (t : ℕ) → terms-lts.Need-returns-5 (Terms t) (terms-at t) terms.Post
 unfolding Tells
-terms-returns-3 t c used lies = sym (symbols t (c .before) lies) ∙ c .if3 .taken
+terms-returns-5 t c used lies = sym (symbols t (c .before) lies) ∙ c .if5 .taken
 
-terms-returns-4 : (t : ℕ) → terms-lts.Need-returns-4 (Terms t) (terms-at t) terms.Post
+terms-returns-6 : (t : ℕ) → terms-lts.Need-returns-6 (Terms t) (terms-at t) terms.Post
 unfolding Tells
-terms-returns-4 t c used lies = sym (symbols t (c .before) lies) ∙ c .if3 .left
+terms-returns-6 t c used lies = sym (symbols t (c .before) lies) ∙ c .if5 .left
 
 pub +equal-runs-within+equal-terms-within-spec : {M : Type 1} → statement M
 +equal-runs-within+equal-terms-within-spec =
@@ -200,8 +215,10 @@ pub +equal-runs-within+equal-terms-within-spec : {M : Type 1} → statement M
     (terms-get-term-requires t)
     (terms-get-term-requires-2 t)
     (terms-returns t)
-    (terms-equal-runs-within-requires t)
     (terms-returns-2 t)
-    (terms-equal-symbols-requires t)
     (terms-returns-3 t)
-    (terms-returns-4 t))
+    (terms-equal-runs-within-requires t)
+    (terms-returns-4 t)
+    (terms-equal-symbols-requires t)
+    (terms-returns-5 t)
+    (terms-returns-6 t))

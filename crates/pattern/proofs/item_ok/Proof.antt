@@ -2,12 +2,12 @@
 use borrow.Author.Needs.{needs}
 use mathlib.Core.Path.{sym, _∙_}
 use borrow.Author.Tests.{eq-eqb, ne-eqb, not-true, not-false}
-use Rattle.pattern.specs.PatternLaws.{item-symbol, item-bracket, item-variable}
+use Rattle.pattern.specs.PatternLaws.{item-literal, item-bracket, item-variable}
 use Rattle.pattern.proofs.item_ok.Statement.{statement}
 use Rattle.pattern.proofs.item_ok.Tie as tie
 
 returns : tie.Need-returns
-returns c = c .symbol-ok .ensures ∙ item-symbol _ _ _ (c .before .if1 .taken)
+returns c = item-literal _ _ _ (c .symbol-ok .ensures) (c .before .literal .ensures) (c .before .before .if1 .taken)
 
 returns-2 : tie.Need-returns-2
 returns-2 c = sym (item-bracket _ _ _ (c .before .before .before .before .if1 .left) (c .before .before .if2 .taken) (ne-eqb _ _ (c .if3 .taken)))
@@ -36,6 +36,7 @@ pub item-ok-spec : {M : Type 1} → statement M
 item-ok-spec =
     tie.close
     (tie.spec
+    (λ c κs. search needs)
     (λ c κs. search needs)
     returns
     returns-2

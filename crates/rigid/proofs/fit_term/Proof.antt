@@ -1,7 +1,7 @@
 -- `rigid::fit_term`: each exit is one law of a record at a term.
 use borrow.Author.Needs.{needs}
 use native.Mathlib.Omega.{arith}
-use Rattle.steps.specs.StepLaws.{literal-texts}
+use Rattle.steps.specs.StepLaws.{literal-texts, literal-same}
 use Rattle.rigid.specs.FitLaws.{term-bracket, term-single, term-literal}
 use Rattle.rigid.proofs.fit_term.Statement.{statement}
 use Rattle.rigid.proofs.fit_term.Tie as tie
@@ -17,12 +17,14 @@ returns-2 c used h =
 
 symbol-matches-requires : tie.Need-symbol-matches-requires
 symbol-matches-requires c κs =
-    let at-term = c .before .before .before .before in
+    let at-term = c .before .before .before .before .before in
     let a = at-term .before .before .before .pre in
-    (literal-texts _ _ _ _ _ _ (a .0 .ready .store) (omega (arith, a .0 .ready .inside)) (at-term .get-term .ensures) (omega arith) (a .1 .0), omega arith)
+    literal-texts _ _ _ _ _ _ _ (a .0 .ready .store) (omega (arith, a .0 .ready .inside)) (c .literal .ensures) (at-term .get-term .ensures) (omega arith) (a .1 .0)
 
 returns-3 : tie.Need-returns-3
-returns-3 c used h = let at-term = c .before .before .before .before .before in term-literal _ _ _ _ _ _ h (at-term .get-term .ensures) (omega arith) (c .symbol-matches .ensures)
+returns-3 c used h =
+    let at-term = c .before .before .before .before .before .before in
+    term-literal _ _ _ _ _ _ h (at-term .get-term .ensures) (omega arith) (literal-same _ _ _ _ (c .symbol-matches .ensures) (c .before .literal .ensures))
 
 pub fit-term-spec : {M : Type 1} → statement M
 fit-term-spec =
@@ -33,5 +35,6 @@ fit-term-spec =
     (λ c. search needs)
     (λ c κs. search needs)
     returns-2
+    (λ c κs. search needs)
     symbol-matches-requires
     returns-3)

@@ -77,8 +77,8 @@ front-requires c κs =
     let asked = task (c .before .before .before .before .before .before) in
     record { used = _; store = asked .store; low = below c asked; begins = run c asked .begins }
 
-copy-words-up-requires : tie.Need-copy-words-up-requires Inv-loop μ-loop
-copy-words-up-requires c κs =
+copy-run-up-requires : tie.Need-copy-run-up-requires Inv-loop μ-loop
+copy-run-up-requires c κs =
     let at-front = c .before .before .before in
     let next = found at-front in
     let at-loop = at-front .before .before .before .before in
@@ -102,7 +102,7 @@ loop-again c =
       λ used asked.
           let so-far = done-run (in-loop .before .loop .inv .1 used asked) (run at-run asked .goes) in
           done-next so-far (in-loop .loop-test .taken) (run at-run asked .begins) (at-front .front .ensures _ (below at-run asked)) _ (done-below so-far (asked .there)) _ refl
-          (c .past .ensures .1) (copied .copy-words-up .ensures),
+          (c .past .ensures .1) (copied .copy-run-up .ensures),
     )
 
 same-length : tie.Need-same-length Inv-loop μ-loop
@@ -127,7 +127,7 @@ copy-after-spec =
     (λ c. omega (arith, found (c .before .before), there (c .before .before)))
     (λ c. omega (arith, found (c .before .before), there (c .before .before)))
     (λ c. omega (arith, found (c .before .before .before), there (c .before .before .before)))
-    copy-words-up-requires
+    copy-run-up-requires
     (λ c. omega (arith, found (c .before .before .before .before .before .before .before)))
     past-requires
     (λ c. omega (arith, found (c .before .before .before .before .before .before .before .before .before)))

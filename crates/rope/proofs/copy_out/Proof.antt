@@ -77,8 +77,8 @@ front-requires c κs =
     let asked = task (c .before .before .before .before .before .before .before) in
     record { used = _; store = asked .store; low = below c asked; begins = run c asked .begins }
 
-copy-words-requires : tie.Need-copy-words-requires Inv-loop μ-loop
-copy-words-requires c κs =
+copy-run-requires : tie.Need-copy-run-requires Inv-loop μ-loop
+copy-run-requires c κs =
     let at-front = c .before .before .before in
     let next = found at-front in
     let at-loop = at-front .before .before .before .before in
@@ -102,7 +102,7 @@ loop-again c =
       λ used asked.
           let so-far = done-run (in-loop .before .loop .inv .1 used asked) (run at-run asked .goes) in
           done-next so-far (in-loop .loop-test .taken) (run at-run asked .begins) (at-front .front .ensures _ (below at-run asked)) _ refl _ (omega arith) (c .past .ensures .1)
-          (copied .copy-words .ensures),
+          (copied .copy-run .ensures),
     )
 
 same-length : tie.Need-same-length Inv-loop μ-loop
@@ -126,7 +126,7 @@ copy-out-spec =
     (λ c. omega (arith, found (c .before .before), there (c .before .before)))
     (λ c. omega (arith, found (c .before .before), there (c .before .before)))
     (λ c. omega (arith, found (c .before .before .before), there (c .before .before .before)))
-    copy-words-requires
+    copy-run-requires
     (λ c. omega (arith, found (c .before .before .before .before .before .before .before)))
     past-requires
     (λ c. omega (arith, found (c .before .before .before .before .before .before .before .before .before)))

@@ -1,4 +1,4 @@
--- `words::get_term`: four words read one by one are the record.
+-- `words::get_term`: five words read one by one are the record.
 use borrow.Author.Needs.{needs}
 use mathlib.Core.Path.{refl}
 use Rattle.term_spec.specs.Term.{termOf, termLayout}
@@ -8,12 +8,15 @@ use Rattle.words.proofs.get_term.Tie as tie
 
 returns : tie.Need-returns
 unfolding termOf
-returns c = let at-start = c .before .before .before .before .before in cc (record-read termLayout (λ l. refl) (at-start .args .terms .now) (at-start .args .i))
+returns c =
+    let at-start = c .before .before .before .before .before .before in cc (record-read termLayout (λ l. refl) (at-start .args .terms .now) (at-start .args .i))
 
 pub get-term-spec : {M : Type 1} → statement M
 get-term-spec =
     tie.close
     (tie.spec
+    (λ c. search needs)
+    (λ c κs. search needs)
     (λ c. search needs)
     (λ c κs. search needs)
     (λ c. search needs)

@@ -1,4 +1,4 @@
--- `words::put_term`: four words set one by one are the record written.
+-- `words::put_term`: five words set one by one are the record written.
 use borrow.Author.Needs.{needs}
 use Rattle.term_spec.specs.WordsLaws.{term-lays}
 use Rattle.term_spec.specs.Term.{termLayout}
@@ -9,13 +9,16 @@ use Rattle.words.proofs.put_term.Tie as tie
 
 returns : tie.Need-returns
 returns c =
-    let at-start = c .before .before .before .before .before .before .before .before .before .before .before .before .before .before .before .before .before in
+    let at-middle = c .before .before .before .before .before .before .before .before .before .before in
+    let at-start = at-middle .before .before .before .before .before .before .before .before .before .before .before in
     cc (record-written termLayout term-lays (at-start .args .terms .now) (at-start .args .i) (asTerm (at-start .args .t)) (search needs))
 
 pub put-term-spec : {M : Type 1} → statement M
 put-term-spec =
     tie.close
     (tie.spec
+    (λ c. search needs)
+    (λ c κs. search needs)
     (λ c. search needs)
     (λ c κs. search needs)
     (λ c. search needs)

@@ -6,6 +6,7 @@ use crate::near;
 use crate::port::{Call, Field, Store};
 use crate::random::Random;
 use crate::tally::Tally;
+use naldrev::TERM_WIDTH;
 
 pub fn run(random: &mut Random, cases: usize, tally: &mut Tally) {
     for _ in 0..cases {
@@ -37,7 +38,7 @@ fn damage(random: &mut Random, store: &mut Store, call: &mut Call) {
         1 => number(random, &mut store.nodes_used),
         2 => names(random, &mut store.names),
         3..=5 => {
-            let used = 4 * store.terms_used;
+            let used = TERM_WIDTH * store.terms_used;
             words(random, &mut store.terms, used)
         }
         6..=8 => {

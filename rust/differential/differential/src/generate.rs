@@ -3,6 +3,7 @@ use crate::plain::values::values;
 use crate::port::{Call, EMPTY, Field, Request, Store};
 use crate::random::Random;
 use crate::tally::Tally;
+use naldrev::TERM_WIDTH;
 use original::value::{Slice, ViewField};
 
 /// The first of ten letters that only patterns made from terms use.
@@ -54,38 +55,68 @@ fn symbol(random: &mut Random) -> [u32; 4] {
     }
 }
 
-/// Terms with few different values, brackets over earlier ones among them; one store in two has no symbols but `a` and `b`.
+/// A term that is no unknown, from the words that it shares with a record of a pattern.
+fn as_term([kind, a, b, c]: [u32; 4]) -> [u32; TERM_WIDTH] {
+    [kind, a, b, c, 0]
+}
+
+/// Terms with few different values, brackets over earlier ones among them. One store in two has no symbols but `a` and `b`, one in eight has
+/// mostly unknowns.
 pub fn terms(random: &mut Random, count: usize) -> Vec<u32> {
-    let (mut words, two) = (Vec::new(), random.one_in(2));
+    let (mut words, sort) = (Vec::new(), random.below(8));
     for i in 0..count {
-        let record = match random.below(12) {
-            0..=2 => bracket(random, &words, i),
-            _ if two => [0, 97 + random.below(2) as u32, 0, 0],
-            9 | 10 if i > 0 => twin(&words, random.below(i)),
-            11 => [4, random.below(3) as u32, random.below(2) as u32, random.below(2) as u32],
-            _ => symbol(random),
+        let record = match (random.below(12), sort) {
+            (0..=2, _) => bracket(random, &words, i),
+            (_, 0..=3) => [0, 97 + random.below(2) as u32, 0, 0, 0],
+            (3..=8, 4) | (9 | 10, _) if i > 0 => {
+                let of = random.below(i);
+                twin(random, &words, of)
+            }
+            (_, 4) | (11, _) => unknown(random),
+            _ => as_term(symbol(random)),
         };
         words.extend(record);
     }
     words
 }
 
-/// An earlier term again, an identifier in other letters and a number with other zeros where the names have it so.
-fn twin(words: &[u32], of: usize) -> [u32; 4] {
-    let [kind, a, b, c] = [0, 1, 2, 3].map(|i| words[4 * of + i]);
+/// Halves of a level that are frequent, so that levels from 0 to 2^64 - 1 come up, and often two of which one half is equal.
+pub const HALVES: [u32; 4] = [0, 1, 1 << 31, u32::MAX];
+
+/// A half of a level: one of these, or any.
+pub fn half(random: &mut Random) -> u32 {
+    if random.one_in(8) { random.word() } else { random.pick(&HALVES) }
+}
+
+fn unknown(random: &mut Random) -> [u32; TERM_WIDTH] {
+    [4, random.pick(&[0, 0, 0, 1, 2]), half(random), random.pick(&[0, 0, 0, 1, u32::MAX]), half(random)]
+}
+
+/// An earlier term again: an identifier in other letters and a number with other zeros where the names have it so, an unknown one time in two with
+/// one half of its level drawn again or the two exchanged.
+fn twin(random: &mut Random, words: &[u32], of: usize) -> [u32; TERM_WIDTH] {
+    let [kind, a, b, c, d] = [0, 1, 2, 3, 4].map(|i| words[TERM_WIDTH * of + i]);
+    if kind == 4 {
+        return match random.below(6) {
+            0 => [kind, a, half(random), c, d],
+            1 => [kind, a, b, c, half(random)],
+            2 => [kind, a, d, c, b],
+            _ => [kind, a, b, c, d],
+        };
+    }
     match RESPELLED.iter().find(|(one, _)| (1..=2).contains(&kind) && *one == (a, b)) {
-        Some((_, (offset, len))) => [kind, *offset, *len, c],
-        None => [kind, a, b, c],
+        Some((_, (offset, len))) => [kind, *offset, *len, c, d],
+        None => [kind, a, b, c, d],
     }
 }
 
 /// A bracket over a run of earlier terms, at most four deep.
-fn bracket(random: &mut Random, words: &[u32], before: usize) -> [u32; 4] {
+fn bracket(random: &mut Random, words: &[u32], before: usize) -> [u32; TERM_WIDTH] {
     let len = random.below(5).min(before);
     let start = random.below(before - len + 1);
-    let inside = words[4 * start..4 * (start + len)].chunks(4);
+    let inside = words[TERM_WIDTH * start..TERM_WIDTH * (start + len)].chunks(TERM_WIDTH);
     let depth = 1 + inside.filter(|t| t[0] == 3).map(|t| t[3]).max().unwrap_or(0);
-    if depth > 4 { [0, 97, 0, 0] } else { [3, start as u32, len as u32, depth] }
+    as_term(if depth > 4 { [0, 97, 0, 0] } else { [3, start as u32, len as u32, depth] })
 }
 
 /// Words after the used records: any.
@@ -96,14 +127,14 @@ fn spare(random: &mut Random, words: &mut Vec<u32>, records: usize, width: usize
 /// A store of so many terms and node 0 alone.
 pub fn store(random: &mut Random, count: usize, room: usize, nodes: usize) -> Store {
     let mut words = terms(random, count);
-    spare(random, &mut words, room, 4);
+    spare(random, &mut words, room, TERM_WIDTH);
     let mut node_words = vec![0; 6];
     spare(random, &mut node_words, nodes, 6);
     Store { names: NAMES.to_vec(), terms: words, terms_used: count, nodes: node_words, nodes_used: 1 }
 }
 
 pub fn arena(store: &Store) -> Slice {
-    Slice::owned(values(&store.names, &store.terms[..4 * store.terms_used]))
+    Slice::owned(values(&store.names, &store.terms[..TERM_WIDTH * store.terms_used]))
 }
 
 // ---- fields ----
@@ -250,12 +281,14 @@ pub fn pattern_of(random: &mut Random, store: &Store, shown: &[usize], words: &m
         if words.len() >= 4 * budget {
             return words.extend(fresh(random, words, 7));
         }
-        let term = &store.terms[4 * shown[at]..4 * shown[at] + 4];
+        let term = &store.terms[TERM_WIDTH * shown[at]..][..TERM_WIDTH];
         at += 1;
         match (term[0], random.below(12)) {
             (_, 11) if odd => bracketed(words, |_| {}),
             (_, 10) if odd => words.extend(symbol(random)),
-            (0..=2, 0..=4) => words.extend_from_slice(term),
+            // Names that come again, so that unknowns are compared.
+            (4, 0..=7) => words.extend(variable(random, 6)),
+            (0..=2, 0..=4) => words.extend_from_slice(&term[..4]),
             (0..=2, 5..=7) => words.extend(fresh(random, words, 5)),
             (3, 0..=7) => {
                 let inside: Vec<usize> = (term[1] as usize..(term[1] + term[2]) as usize).collect();

@@ -1,15 +1,17 @@
 //! At and around every limit that the Rust can do, and at the port's own.
-use crate::generate;
+use crate::generate::{self, HALVES};
 use crate::port::{Call, EMPTY, Field, Request, Store};
 use crate::random::Random;
 use crate::rules;
 use crate::tally::Tally;
+use naldrev::TERM_WIDTH;
 
 pub fn run(random: &mut Random, rounds: usize, tally: &mut Tally) {
     tally.bound = f64::INFINITY;
     for round in 0..rounds {
         names(random, tally);
         numbers(tally);
+        levels(tally);
         nesting(tally);
         depth(tally);
         records(tally);
@@ -26,15 +28,15 @@ pub fn run(random: &mut Random, rounds: usize, tally: &mut Tally) {
 // ---- stores ----
 
 fn store(terms: Vec<u32>, room: usize, nodes: usize) -> Store {
-    let used = terms.len() / 4;
+    let used = terms.len() / TERM_WIDTH;
     let mut terms = terms;
-    terms.resize(4 * (used + room), 0);
+    terms.resize(TERM_WIDTH * (used + room), 0);
     Store { names: b"xyz".to_vec(), terms, terms_used: used, nodes: vec![0; 6 * nodes], nodes_used: 1 }
 }
 
 /// Chars `a`, with a `b` at about one in `rare`.
 fn chars(random: &mut Random, count: usize, rare: usize) -> Vec<u32> {
-    (0..count).flat_map(|_| [0, if random.one_in(rare) { 98 } else { 97 }, 0, 0]).collect()
+    (0..count).flat_map(|_| [0, if random.one_in(rare) { 98 } else { 97 }, 0, 0, 0]).collect()
 }
 
 /// Compares a building call and goes on with what it left.
@@ -73,7 +75,7 @@ fn names(random: &mut Random, tally: &mut Tally) {
         ask(tally, &store, field, &pattern, &repeated, 2 * total);
     }
     for len in [1, 254, 255, 256] {
-        let mut store = store([1, 0, len, 0].to_vec(), 0, 4);
+        let mut store = store([1, 0, len, 0, 0].to_vec(), 0, 4);
         store.names = vec![b'a'; 300];
         let field = build(tally, &mut store, Call::FromRuns(vec![0, 1]));
         ask(tally, &store, field, &[1, 10, len, 0], &[], 0);
@@ -87,7 +89,7 @@ fn numbers(tally: &mut Tally) {
     let names = [&b"0".repeat(300)[..], b"70"].concat();
     let spots: Vec<[u32; 2]> =
         [1, 2, 3, 254, 255].into_iter().flat_map(|len| [[0, len], [301 - len, len], [302 - len.max(2), len.max(2)]]).collect();
-    let mut store = store(spots.iter().flat_map(|[offset, len]| [2, *offset, *len, 0]).collect(), 0, 2);
+    let mut store = store(spots.iter().flat_map(|[offset, len]| [2, *offset, *len, 0, 0]).collect(), 0, 2);
     store.names = names;
     let all = build(tally, &mut store, Call::FromRuns(vec![0, spots.len() as u32]));
     for (i, [offset, len]) in spots.iter().enumerate() {
@@ -101,10 +103,33 @@ fn numbers(tally: &mut Tally) {
     tally.compare(&store, &Call::CompareRuns(0, 1, 1, 1), None);
 }
 
+/// Unknowns of levels whose halves are at their ends or in the middle, each level twice: each with each. Then a first term of each other kind with
+/// these upper halves, of which it may have 0 alone.
+fn levels(tally: &mut Tally) {
+    let pairs = HALVES.map(|upper| HALVES.map(|lower| [4, 0, lower, 1, upper]));
+    let twice = pairs.as_flattened().repeat(2);
+    let mut store = store(twice.concat(), 0, 2);
+    store.names.push(b'7');
+    let all = build(tally, &mut store, Call::FromRuns(vec![0, twice.len() as u32]));
+    for i in 0..twice.len() {
+        ask(tally, &store, all, &[7, 0, 1, 0, 5, 1, 1, 0, 7, 2, 1, 0], &[5, 1, 1, i as u32, 1], 400);
+        for j in 0..twice.len() {
+            tally.compare(&store, &Call::CompareRuns(i, 1, j, 1), None);
+        }
+    }
+    ask(tally, &store, all, &[7, 0, 1, 0, 5, 1, 1, 0, 7, 2, 1, 0, 5, 1, 1, 0, 7, 0, 2, 0], &[], 400);
+    for d in HALVES {
+        for [kind, a, b, c] in [[0, 97, 0, 0], [1, 0, 1, 0], [2, 3, 1, 0], [3, 0, 0, 1]] {
+            store.terms[..TERM_WIDTH].copy_from_slice(&[kind, a, b, c, d]);
+            tally.compare(&store, &Call::CompareRuns(0, 1, 1, 1), None);
+        }
+    }
+}
+
 /// A chain of brackets, the term with number i of depth i.
 fn chain(innermost: u32, from: usize, deep: usize) -> Vec<u32> {
-    let mut words = vec![0, innermost, 0, 0];
-    words.extend((1..=deep).flat_map(|i| [3, (from + i - 1) as u32, 1, i as u32]));
+    let mut words = vec![0, innermost, 0, 0, 0];
+    words.extend((1..=deep).flat_map(|i| [3, (from + i - 1) as u32, 1, i as u32, 0]));
     words
 }
 
@@ -145,7 +170,7 @@ fn depth(tally: &mut Tally) {
 /// Patterns of 256 records and around, rigid runs as long.
 fn records(tally: &mut Tally) {
     for count in [254, 255, 256, 257] {
-        let mut store = store([0, 97, 0, 0].repeat(300), 0, 8);
+        let mut store = store([0, 97, 0, 0, 0].repeat(300), 0, 8);
         let exact = build(tally, &mut store, Call::FromRuns(vec![0, count as u32]));
         let longer = build(tally, &mut store, Call::FromRuns(vec![0, 300]));
         for record in [[0, 97, 0, 0], [5, 0, 1, 0], [6, 0, 1, 0], [7, 0, 1, 0]] {
@@ -210,7 +235,7 @@ fn long(random: &mut Random, tally: &mut Tally) {
         ask(tally, &store, field, &[x, y].concat(), &[7, 0, 1, 100, 7], 8);
         tight(tally, &store, field);
         for room in [field.len, field.len - 1] {
-            tally.compare(&store, &Call::Flatten(field, generate::slots(4 * room)), None);
+            tally.compare(&store, &Call::Flatten(field, generate::slots(TERM_WIDTH * room)), None);
         }
     }
 }
@@ -219,7 +244,7 @@ fn long(random: &mut Random, tally: &mut Tally) {
 fn tight(tally: &mut Tally, store: &Store, field: Field) {
     for room in [field.len - 1, field.len, field.len + 1] {
         let mut tight = store.clone();
-        tight.terms.resize(4 * (store.terms_used + room), 1);
+        tight.terms.resize(TERM_WIDTH * (store.terms_used + room), 1);
         ask(tally, &tight, field, &[7, 0, 1, 0], &[], 2);
     }
 }
@@ -259,7 +284,7 @@ fn half_full(random: &mut Random, tally: &mut Tally) {
 
 /// Nodes that each show the one before twice: their reach ends at 65,536; a reach beyond it is no reach.
 fn doubled(tally: &mut Tally) {
-    let mut store = store([0, 97, 0, 0].repeat(3), 0, 1);
+    let mut store = store([0, 97, 0, 0, 0].repeat(3), 0, 1);
     store.nodes.extend([1, 0, 3, 0, 1, 3]);
     for i in 2..20u32 {
         let below = store.nodes[6 * (i as usize - 1) + 5];
@@ -286,7 +311,7 @@ fn doubled(tally: &mut Tally) {
 /// Ropes that lean left and right, by stores that no call makes; and a store of 65,536 nodes.
 fn spines(tally: &mut Tally, deep: usize) {
     for leans_left in [true, false] {
-        let mut store = store([0, 97, 0, 0].repeat(4), 0, 1);
+        let mut store = store([0, 97, 0, 0, 0].repeat(4), 0, 1);
         store.nodes.extend([1, 0, 2, 0, 1, 2]);
         for i in 2..deep as u32 {
             let below = store.nodes[6 * (i as usize - 1) + 5];
@@ -309,15 +334,16 @@ fn spines(tally: &mut Tally, deep: usize) {
             tally.compare(&store, &call, None);
         }
         tally.compare(&store, &Call::Equal(top, top), None);
-        tally.compare(&store, &Call::Flatten(top, generate::slots(4 * top.len)), None);
+        tally.compare(&store, &Call::Flatten(top, generate::slots(TERM_WIDTH * top.len)), None);
     }
-    let mut store = store([0, 97, 0, 0].to_vec(), 0, 1);
+    let mut store = store([0, 97, 0, 0, 0].to_vec(), 0, 1);
     store.nodes.extend((1..65536).flat_map(|i| [1, 0, 1, i - 1, 1, i]));
     store.nodes.resize(6 * 65600, 5);
     for used in [65535, 65536, 65537] {
         let lent = Store { nodes_used: used, ..store.clone() };
         let (long, short) = (Field { node: 65534, len: 65534 }, Field { node: 1, len: 1 });
-        for call in [Call::Join(long, short), Call::FromRuns(vec![0, 1]), Call::Rest(long, 65534), Call::Flatten(long, vec![0; 4 * 65534])]
+        for call in
+            [Call::Join(long, short), Call::FromRuns(vec![0, 1]), Call::Rest(long, 65534), Call::Flatten(long, vec![0; TERM_WIDTH * 65534])]
         {
             tally.compare(&lent, &call, None);
         }

@@ -4,6 +4,7 @@ use crate::port::{Call, Outcome, Request, Store};
 use crate::random::Random;
 use crate::rules;
 use crate::tally::Tally;
+use naldrev::TERM_WIDTH;
 
 pub fn run(random: &mut Random, cases: usize, building: &mut Tally, listing: &mut Tally, first: &mut Tally) {
     for _ in 0..cases {
@@ -31,7 +32,7 @@ fn tight_terms(random: &mut Random, store: &mut Store, len: usize) {
         1 => len.saturating_sub(1),
         _ => return,
     };
-    store.terms.resize(4 * (store.terms_used + spare), 7);
+    store.terms.resize(TERM_WIDTH * (store.terms_used + spare), 7);
 }
 
 fn with_slots(tally: &mut Tally, store: &Store, made: &Made, request: &Request, words: usize) -> Option<Outcome> {

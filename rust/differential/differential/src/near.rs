@@ -1,7 +1,8 @@
 //! Records that keep all rules but one, or just keep them: what random damage seldom makes.
-use crate::generate::NAMES;
+use crate::generate::{NAMES, half};
 use crate::port::{Call, Store};
 use crate::random::Random;
+use naldrev::TERM_WIDTH;
 
 /// Adds a term or a node to the store, or records to the call's pattern or bindings.
 pub fn add(random: &mut Random, store: &mut Store, call: &mut Call) {
@@ -47,15 +48,16 @@ fn term(random: &mut Random, store: &mut Store) {
     let i = store.terms_used;
     let len = random.below(4).min(i);
     let start = if random.one_in(2) { i - len + random.below(2) } else { random.below(i - len + 1) };
-    let inside = (start..start + len).filter(|n| *n < i && store.terms[4 * n] == 3);
-    let depth = 1 + inside.map(|n| store.terms[4 * n + 3]).max().unwrap_or(0);
-    let record = match random.below(4) {
+    let inside = (start..start + len).filter(|n| *n < i && store.terms[TERM_WIDTH * n] == 3);
+    let depth = 1 + inside.map(|n| store.terms[TERM_WIDTH * n + 3]).max().unwrap_or(0);
+    let [kind, a, b, c] = match random.below(4) {
         0 => symbol(random),
         1 => [4, random.below(4) as u32, random.word(), random.word()],
         2 => [3, start as u32, len as u32, depth],
         _ => [3, start as u32, len as u32, depth + 1 - 2 * random.below(2) as u32],
     };
-    put(&mut store.terms, &mut store.terms_used, &record);
+    let d = if kind == 4 || random.one_in(8) { half(random) } else { 0 };
+    put(&mut store.terms, &mut store.terms_used, &[kind, a, b, c, d]);
 }
 
 fn node(random: &mut Random, store: &mut Store) {

@@ -4,6 +4,7 @@ use crate::plain::values::{alike, stripped, values};
 use crate::port::{Call, EMPTY, Field, LEFT_ALONE, Outcome, Request, Store, lent};
 use crate::recorder::{self, Noted};
 use crate::rules::{self, Name, capacity};
+use naldrev::TERM_WIDTH;
 use original::matcher::{self, Bindings, MatchError, VariableKey};
 use original::opened::nodes::{ALLOCATED, Nodes, Seen, allocation, numbers, root, unknown};
 use original::opened::{Flat, Value as OpenedValue, ViewField as OpenedField};
@@ -37,7 +38,7 @@ pub fn outcome(store: &Store, call: &Call, field: Option<&ViewField>) -> Result<
 }
 
 fn used_terms(store: &Store) -> &[u32] {
-    &store.terms[..4 * store.terms_used]
+    &store.terms[..TERM_WIDTH * store.terms_used]
 }
 
 fn said(store: &Store, call: &Call, yes: bool) -> Outcome {
@@ -141,7 +142,7 @@ fn flattened(store: &Store, call: &Call, f: Field, work: &[u32]) -> Result<Outco
             if !opened::values::alike(&copy, &read) {
                 return Err("the original's flatten and its runs disagree".into());
             }
-            if copy.len() > work.len() / 4 {
+            if copy.len() > work.len() / TERM_WIDTH {
                 return Ok(Outcome::refused(WORK_SHORT, store, call));
             }
             put_terms(&mut lent, 0, store, &shown);
@@ -154,8 +155,8 @@ fn flattened(store: &Store, call: &Call, f: Field, work: &[u32]) -> Result<Outco
 /// Copies terms, by number, to a place in other words.
 fn put_terms(words: &mut [u32], place: usize, store: &Store, shown: &[usize]) {
     for (i, n) in shown.iter().enumerate() {
-        let at = 4 * (place + i);
-        words[at..at + 4].copy_from_slice(&store.terms[4 * n..4 * n + 4]);
+        let at = TERM_WIDTH * (place + i);
+        words[at..at + TERM_WIDTH].copy_from_slice(&store.terms[TERM_WIDTH * n..TERM_WIDTH * (n + 1)]);
     }
 }
 
@@ -170,7 +171,7 @@ fn settled(store: &Store, f: Field) -> Result<(Store, usize), usize> {
     if node[0] == 1 && node[3] == 0 {
         return Ok((store.clone(), node[1] as usize));
     }
-    if f.len > capacity(&store.terms, 4) - store.terms_used {
+    if f.len > capacity(&store.terms, TERM_WIDTH) - store.terms_used {
         return Err(TERMS_FULL);
     }
     let shown = numbers(&nodes_of(store, false).field(f.node, f.len));
@@ -293,7 +294,7 @@ fn starts(store: &Store, request: &Request, entries: &[Name], start: usize, leng
         match record[0] {
             3 => {
                 outer.push(at + 1);
-                at = store.terms[4 * at + 1] as usize;
+                at = store.terms[TERM_WIDTH * at + 1] as usize;
             }
             4 => at = outer.pop().expect("a Close after its Open"),
             5..=7 => {
@@ -312,7 +313,7 @@ fn starts(store: &Store, request: &Request, entries: &[Name], start: usize, leng
 pub fn candidates_bound(store: &Store, request: &Request) -> f64 {
     let started = request.bindings.len() / 5;
     let open = rules::entries(&store.names, &request.pattern, &request.bindings)[started..].iter().filter(|name| name.0 == 7).count();
-    let brackets = used_terms(store).chunks(4).filter(|t| t[0] == 3).map(|t| t[2] as usize);
+    let brackets = used_terms(store).chunks(TERM_WIDTH).filter(|t| t[0] == 3).map(|t| t[2] as usize);
     let longest = brackets.max().unwrap_or(0).max(request.field.len);
     (1..=open).map(|i| (longest + i) as f64 / i as f64).product()
 }

@@ -3,6 +3,7 @@ use crate::generate::{self, Made};
 use crate::port::{Call, Field, Store};
 use crate::random::Random;
 use crate::tally::Tally;
+use naldrev::TERM_WIDTH;
 
 pub fn run(random: &mut Random, cases: usize, building: &mut Tally, tally: &mut Tally) {
     for _ in 0..cases {
@@ -46,7 +47,7 @@ pub fn any_read(random: &mut Random, store: &Store) -> Call {
         1 => Call::StartsWith(f, g),
         2 => {
             let room = random.pick(&[f.len, f.len + 1, f.len.saturating_sub(1), 0]);
-            Call::Flatten(f, generate::slots(4 * room))
+            Call::Flatten(f, generate::slots(TERM_WIDTH * room))
         }
         _ => compare_runs(random, store.terms_used),
     }

@@ -6,6 +6,7 @@ use crate::oracle;
 use crate::port::{Call, EMPTY, Field, Outcome, Request, Store};
 use crate::random::Random;
 use crate::rules;
+use naldrev::TERM_WIDTH;
 
 /// Bounds of what is written: terms of a store, terms lent for it, nodes lent, pattern records, words of slots.
 const TERMS: usize = 14;
@@ -34,7 +35,8 @@ pub fn write(seed: u64, listings: usize) {
     while left > 0 {
         let used = 1 + random.below(TERMS);
         let mut store = generate::store(random, used, LENT - used, NODES - 1);
-        println!("set terms{} lend terms {} set nodes nil lend nodes {}", records(TERM, 4, &store.terms[..4 * used]), 4 * LENT, 6 * NODES);
+        let terms = records(TERM, TERM_WIDTH, &store.terms[..TERM_WIDTH * used]);
+        println!("set terms{terms} lend terms {} set nodes nil lend nodes {}", TERM_WIDTH * LENT, 6 * NODES);
         let mut fields = vec![EMPTY];
         for _ in 0..8 {
             build(random, &mut store, &mut fields);
@@ -150,8 +152,8 @@ fn list(random: &mut Random, store: &Store, fields: &[Field]) -> bool {
             0
         }
     };
-    let copied = &got.store.terms[4 * store.terms_used..4 * got.store.terms_used];
-    print!("{}{}", clause("writes terms", records(TERM, 4, copied)), clause("writes slots", numbers(wide(&got.lent[..filled]))));
+    let copied = &got.store.terms[TERM_WIDTH * store.terms_used..TERM_WIDTH * got.store.terms_used];
+    print!("{}{}", clause("writes terms", records(TERM, TERM_WIDTH, copied)), clause("writes slots", numbers(wide(&got.lent[..filled]))));
     println!("{}", if copied.is_empty() { String::new() } else { format!(" use terms {}", store.terms_used) });
     true
 }

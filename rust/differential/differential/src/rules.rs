@@ -1,4 +1,5 @@
-//! Document 01's rules of records and arguments, written from its text alone: the first of 1 to 9 that applies to a call.
+//! Document 01's rules of records and arguments, with 02's change of terms (2.7), written from their text alone: the first of 1 to 9 that applies
+//! to a call.
 use crate::port::{Call, Field, Request, Store};
 
 const LIMIT: usize = 65536;
@@ -25,7 +26,7 @@ fn whole(words: &[u32], width: usize) -> bool {
 /// The first of 1 to 9 that applies, or 0.
 pub fn refusal(store: &Store, call: &Call) -> usize {
     let terms = &store.terms;
-    let even = store.names.len() <= LIMIT && whole(terms, 4) && store.terms_used <= capacity(terms, 4);
+    let even = store.names.len() <= LIMIT && whole(terms, 5) && store.terms_used <= capacity(terms, 5);
     let comparing = matches!(call, Call::CompareRuns(..));
     let nodes_even = whole(&store.nodes, 6) && store.nodes_used <= capacity(&store.nodes, 6);
     if !even || !(comparing || nodes_even) || !arguments_even(call) {
@@ -49,7 +50,7 @@ pub fn refusal(store: &Store, call: &Call) -> usize {
 fn arguments_even(call: &Call) -> bool {
     match call {
         Call::FromRuns(runs) => whole(runs, 2) && runs.len() / 2 <= 64,
-        Call::Flatten(_, work) => whole(work, 4),
+        Call::Flatten(_, work) => whole(work, 5),
         Call::Match(r) => whole(&r.pattern, 4) && r.pattern.len() / 4 <= 256 && whole(&r.bindings, 5),
         _ => true,
     }
@@ -81,10 +82,11 @@ fn symbol(names: &[u8], r: &[u64]) -> bool {
     }
 }
 
-/// A used term; those before it have passed.
+/// A used term; those before it have passed. Its fifth word is the upper half of an unknown's level, and 0 elsewhere.
 fn term(store: &Store, i: usize) -> bool {
-    let r = record(&store.terms, 4, i);
+    let r = record(&store.terms, 5, i);
     match r[0] {
+        0..=3 if r[4] != 0 => false,
         0..=2 => symbol(&store.names, &r),
         3 => r[1] + r[2] <= i as u64 && r[3] == 1 + deepest(&store.terms, r[1] as usize, r[2] as usize) && r[3] <= 255,
         4 => r[1] <= 2,
@@ -93,7 +95,7 @@ fn term(store: &Store, i: usize) -> bool {
 }
 
 fn deepest(terms: &[u32], start: usize, len: usize) -> u64 {
-    let depth = |i: usize| if terms[4 * i] == 3 { u64::from(terms[4 * i + 3]) } else { 0 };
+    let depth = |i: usize| if terms[5 * i] == 3 { u64::from(terms[5 * i + 3]) } else { 0 };
     (start..start + len).map(depth).max().unwrap_or(0)
 }
 

@@ -13,7 +13,7 @@ pub fn made_by_calls(random: &mut Random, cases: usize, tally: &mut Tally) {
         }
         let used = 1 + random.below(8);
         let mut store = generate::store(random, used, 0, 200);
-        store.terms = [0, 97, 0, 0].repeat(used);
+        store.terms = [0, 97, 0, 0, 0].repeat(used);
         let arena = Slice::owned(vec![Value::Char('a'); used]);
         let seq = format!("{:?}", arena.terms());
         let mut made: Vec<Made> = Vec::new();

@@ -3,11 +3,12 @@ use crate::generate::{self, Made};
 use crate::port::{Call, Field, Request, Store};
 use crate::rules;
 use crate::tally::Tally;
+use naldrev::TERM_WIDTH;
 use original::value::ViewField;
 
 const NAMES: &[u8] = b"xXy";
 /// `a`, `b`, an empty bracket, and a bracket over `a b`.
-const TERMS: [u32; 16] = [0, 97, 0, 0, 0, 98, 0, 0, 3, 0, 0, 1, 3, 0, 2, 1];
+const TERMS: [[u32; TERM_WIDTH]; 4] = [[0, 97, 0, 0, 0], [0, 98, 0, 0, 0], [3, 0, 0, 1, 0], [3, 0, 2, 1, 0]];
 const A: [u32; 4] = [0, 97, 0, 0];
 const S_X: [u32; 4] = [5, 0, 1, 0];
 const T_Y: [u32; 4] = [6, 2, 1, 0];
@@ -65,9 +66,9 @@ fn pattern(alphabet: &[&[[u32; 4]]], list: &[usize]) -> (Vec<u32>, bool) {
 
 /// The field that shows those terms, made by from_runs on both sides.
 fn field(tally: &mut Tally, list: &[usize]) -> (Store, Made) {
-    let mut terms = TERMS.to_vec();
-    terms.resize(4 * 16, 0);
-    let store = Store { names: NAMES.to_vec(), terms, terms_used: 4, nodes: vec![0; 6 * 8], nodes_used: 1 };
+    let mut terms = TERMS.concat();
+    terms.resize(TERM_WIDTH * 16, 0);
+    let store = Store { names: NAMES.to_vec(), terms, terms_used: TERMS.len(), nodes: vec![0; 6 * 8], nodes_used: 1 };
     let arena = generate::arena(&store);
     let runs = list.iter().flat_map(|t| [*t as u32, 1]).collect();
     let plain = ViewField::from_runs(list.iter().map(|t| arena.sub(*t, 1)).collect());
@@ -80,7 +81,7 @@ fn field(tally: &mut Tally, list: &[usize]) -> (Store, Made) {
 /// whose brackets do not nest are tried on fields of one term.
 pub fn run(tally: &mut Tally, alphabet: &[&[[u32; 4]]], terms: usize, longest: usize, starts: usize) {
     let patterns: Vec<(Vec<u32>, bool)> = lists(alphabet.len(), longest).iter().map(|list| pattern(alphabet, list)).collect();
-    for list in lists(TERMS.len() / 4, terms) {
+    for list in lists(TERMS.len(), terms) {
         let (store, made) = field(tally, &list);
         for (pattern, _) in patterns.iter().filter(|(_, nests)| *nests || list.len() == 1) {
             for bindings in &STARTS[..starts] {

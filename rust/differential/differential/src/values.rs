@@ -1,5 +1,6 @@
 //! Term records as values of the Rust, and values compared as it was handed them. Compiled twice: for value.rs, and for the copy that shows its nodes.
 use super::value::{Slice, Unknown, UnknownKind, Value};
+use naldrev::TERM_WIDTH;
 use refal_ast::Symbol;
 
 fn spelled(names: &[u8], offset: u32, len: u32) -> String {
@@ -12,18 +13,23 @@ pub fn stripped(text: &str) -> &str {
     &text[zeros.min(text.len() - 1)..]
 }
 
+/// An unknown's level from its two words.
+fn level(lower: u32, upper: u32) -> u64 {
+    u64::from(upper) << 32 | u64::from(lower)
+}
+
 /// The values of all terms, by number; numbers are stripped.
 pub fn values(names: &[u8], terms: &[u32]) -> Vec<Value> {
     let kinds = [UnknownKind::Symbol, UnknownKind::Term, UnknownKind::Expression];
-    let mut made: Vec<Value> = Vec::with_capacity(terms.len() / 4);
-    for record in terms.chunks(4) {
-        let [kind, a, b, c] = [record[0], record[1], record[2], record[3]];
+    let mut made: Vec<Value> = Vec::with_capacity(terms.len() / TERM_WIDTH);
+    for record in terms.chunks(TERM_WIDTH) {
+        let [kind, a, b, c, d] = [0, 1, 2, 3, 4].map(|word| record[word]);
         made.push(match kind {
             0 => Value::Char(char::from_u32(a).expect("a scalar value")),
             1 => Value::identifier(spelled(names, a, b)),
             2 => Value::number(stripped(&spelled(names, a, b)).to_string()),
             3 => Value::Bracket(Slice::copied(&made[a as usize..(a + b) as usize])),
-            _ => Value::Unknown(Unknown::new(kinds[a as usize], b.into(), Symbol::Number(c.to_string()))),
+            _ => Value::Unknown(Unknown::new(kinds[a as usize], level(b, d), Symbol::Number(c.to_string()))),
         });
     }
     made

@@ -67,7 +67,7 @@ impl Store {
         Ok(ffi::compare_runs(self.lent_terms(), first, second)?)
     }
 
-    /// A field's terms as one run, copied to the work buffer where they are scattered. Its length is a multiple of a term's four words.
+    /// A field's terms as one run, copied to the work buffer where they are scattered. Its length is a multiple of [`crate::TERM_WIDTH`].
     pub fn flatten(&self, field: Field, work: &mut [u32]) -> Result<Flat, Error> {
         let (in_work, start, count) = ffi::flatten(self.lent_terms(), self.lent_nodes(), self.check_field(field)?, work)?;
         Ok(if in_work { Flat::InWork(count) } else { Flat::InStore(self.run(start, count)) })

@@ -3,7 +3,8 @@
 use std::fmt;
 
 use super::{Field, Flat, Run, Store, MAX_VALUES};
-use crate::records::{spells_identifier, spells_name, spells_number, term, MAX_DEPTH, MAX_TERMS, MAX_TEXT, TERM_WIDTH};
+use crate::records::{level_of, level_words, spells_identifier, spells_name, spells_number, term};
+use crate::records::{MAX_DEPTH, MAX_TERMS, MAX_TEXT, TERM_WIDTH};
 use crate::text::Printer;
 use crate::value::{Expression, UnknownKind, Value};
 use crate::{Error, Refusal};
@@ -36,12 +37,12 @@ impl Store {
         }
         self.term_room(1)?;
         let [at, len] = self.names.place(text)?;
-        self.put([kind, at, len, 0])
+        self.put([kind, at, len, 0, 0])
     }
 
     /// Adds a character.
     pub fn add_char(&mut self, c: char) -> Result<Run, Error> {
-        self.put([term::CHAR, u32::from(c), 0, 0])
+        self.put([term::CHAR, u32::from(c), 0, 0, 0])
     }
 
     /// Adds an identifier. [`Refusal::BadTerm`] if the text is none.
@@ -67,12 +68,13 @@ impl Store {
             return Err(Refusal::BadTerm.into());
         }
         let [start, len] = contents.words()?;
-        self.put([term::BRACKET, start, len, deepest + 1])
+        self.put([term::BRACKET, start, len, deepest + 1, 0])
     }
 
     /// Adds an unknown.
-    pub fn add_unknown(&mut self, kind: UnknownKind, level: u32, index: u32) -> Result<Run, Error> {
-        self.put([term::UNKNOWN, kind as u32, level, index])
+    pub fn add_unknown(&mut self, kind: UnknownKind, level: u64, index: u32) -> Result<Run, Error> {
+        let [lower, upper] = level_words(level);
+        self.put([term::UNKNOWN, kind as u32, lower, index, upper])
     }
 
     /// Adds values one after another, the contents of their brackets before them. If one is refused, none is added.
@@ -113,7 +115,7 @@ enum Record<'a> {
     Identifier(&'a str),
     Number(&'a str),
     Bracket(&'a [u32]),
-    Unknown { kind: UnknownKind, level: u32, index: u32 },
+    Unknown { kind: UnknownKind, level: u64, index: u32 },
 }
 
 /// The terms of a run, to be shown or read.
@@ -252,12 +254,19 @@ impl Store {
 
     fn record(&self, words: &[u32]) -> Result<Record<'_>, Refusal> {
         let (a, b) = (words[1] as usize, words[2] as usize);
+        if words[0] != term::UNKNOWN && words[4] != 0 {
+            return Err(Refusal::BadTerm);
+        }
         Ok(match words[0] {
             term::CHAR => Record::Char(char::from_u32(words[1]).ok_or(Refusal::BadTerm)?),
             term::IDENTIFIER => Record::Identifier(self.read_text(a, b)?),
             term::NUMBER => Record::Number(self.read_text(a, b)?),
             term::BRACKET => Record::Bracket(self.run_words(a, b)?),
-            term::UNKNOWN => Record::Unknown { kind: *UnknownKind::ALL.get(a).ok_or(Refusal::BadTerm)?, level: words[2], index: words[3] },
+            term::UNKNOWN => Record::Unknown {
+                kind: *UnknownKind::ALL.get(a).ok_or(Refusal::BadTerm)?,
+                level: level_of([words[2], words[4]]),
+                index: words[3],
+            },
             _ => return Err(Refusal::BadTerm),
         })
     }

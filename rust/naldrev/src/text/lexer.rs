@@ -29,7 +29,7 @@ pub(super) enum Token<'a> {
     Char(char),
     Identifier(&'a str),
     Number(&'a str),
-    Unknown { kind: UnknownKind, level: u32, index: u32 },
+    Unknown { kind: UnknownKind, level: u64, index: u32 },
     Variable { kind: VariableKind, name: &'a str },
     Sign(char),
 }

@@ -58,7 +58,7 @@ impl<'a, W: fmt::Write + ?Sized> Printer<'a, W> {
     }
 
     /// An unknown.
-    pub(crate) fn unknown(&mut self, kind: UnknownKind, level: u32, index: u32) -> fmt::Result {
+    pub(crate) fn unknown(&mut self, kind: UnknownKind, level: u64, index: u32) -> fmt::Result {
         let letter = KINDS[kind as usize].0;
         self.term(format_args!("?{letter}.{level}.{index}"))
     }

@@ -161,16 +161,20 @@ fn double_quotes_are_refused() {
 
 #[test]
 fn unknowns() {
-    let range = "both numbers from 0 to 4294967295";
+    let range = "LEVEL a number from 0 to 18446744073709551615, INDEX from 0 to 4294967295";
     check_errors::<Expression>(&[
         ("?s.1", 1, &format!("?s.1 is no unknown; one is written ?s.LEVEL.INDEX, {range}")),
         ("?e.1.", 1, &format!("?e.1. is no unknown; one is written ?e.LEVEL.INDEX, {range}")),
         ("?e.+1.2", 1, &format!("?e.+1.2 is no unknown; one is written ?e.LEVEL.INDEX, {range}")),
-        ("?t.4294967296.0", 1, &format!("?t.4294967296.0 is no unknown; one is written ?t.LEVEL.INDEX, {range}")),
+        ("?t.18446744073709551616.0", 1, &format!("?t.18446744073709551616.0 is no unknown; one is written ?t.LEVEL.INDEX, {range}")),
+        ("?s.0.4294967296", 1, &format!("?s.0.4294967296 is no unknown; one is written ?s.LEVEL.INDEX, {range}")),
         ("?t.1.2x", 1, &format!("?t.1.2x is no unknown; one is written ?t.LEVEL.INDEX, {range}")),
         ("?x.1.2", 1, "?x.1.2 is no term; as characters it is written '?x.1.2'"),
     ]);
     assert_eq!(printed::<Expression>("?s.01.002"), "?s.1.2");
+    let levels = "?s.0.1 ?t.4294967295.1 ?e.4294967296.1 ?s.18446744073709551615.4294967295";
+    assert_eq!(printed::<Expression>(levels), levels);
+    assert_eq!("?e.4294967301.2".parse(), Ok(Value::Unknown { kind: UnknownKind::Expression, level: (1 << 32) + 5, index: 2 }));
     assert_eq!(error::<Pattern>("e.1 ?s.1.2"), "line 1, column 5: ?s.1.2 is an unknown, and only messages have unknowns");
 }
 

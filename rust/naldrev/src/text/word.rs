@@ -1,6 +1,7 @@
 //! Words: identifiers, numbers, unknowns and variables; and what to write instead of a word that is none of these.
 
 use std::borrow::Cow;
+use std::str::FromStr;
 
 use super::lexer::{is_blank, Mode, Token};
 use super::printer::write_shown;
@@ -98,13 +99,13 @@ fn unknown(word: &str, mode: Mode) -> Read<'_> {
     let parts = kind_at(rest).zip(rest[2..].split_once('.'));
     let token = parts.and_then(|((_, kind), (level, index))| Some(Token::Unknown { kind, level: number(level)?, index: number(index)? }));
     token.map(|token| (token, word.len())).ok_or_else(|| {
-        let letter = &rest[..1];
-        format!("{} is no unknown; one is written ?{letter}.LEVEL.INDEX, both numbers from 0 to {}", shown(word), u32::MAX)
+        let ranges = format!("LEVEL a number from 0 to {}, INDEX from 0 to {}", u64::MAX, u32::MAX);
+        format!("{} is no unknown; one is written ?{}.LEVEL.INDEX, {ranges}", shown(word), &rest[..1])
     })
 }
 
-/// The number that digits say, if it is no larger than an unknown's may be.
-fn number(digits: &str) -> Option<u32> {
+/// The number that digits say, if it is no larger than the largest of its type.
+fn number<T: FromStr>(digits: &str) -> Option<T> {
     // `parse` would take a plus sign as well.
     digits.bytes().all(|byte| byte.is_ascii_digit()).then(|| digits.parse().ok())?
 }

@@ -42,15 +42,29 @@ fn the_examples_are_written_byte_for_byte() {
 #[test]
 fn a_sheet_keeps_each_name_once() {
     let sheet = "         3         3         2         1
-         1         0         1         0
-         2         1         1         0
-         1         0         1         0
+         1         0         1         0         0
+         2         1         1         0         0
+         1         0         1         0         0
 a7b
          1         0         1         0
          7         2         1         0
          0         3         0         0
 ";
     run(["sheet", "a 7 a", "a e.b"]).prints(FITS, sheet);
+}
+
+#[test]
+fn a_level_stands_in_two_columns() {
+    let sheet = "         4         1         1         1
+         4         0         5         7         0
+         4         1         5         7         1
+         4         2         04294967295         0
+         4         24294967295         24294967295
+x
+         7         0         1         0
+         0         4         0         0
+";
+    run(["sheet", "?s.5.7 ?t.4294967301.7 ?e.0.4294967295 ?e.18446744073709551615.2", "e.x"]).prints(FITS, sheet);
 }
 
 #[test]
@@ -159,7 +173,7 @@ fn terms_of_any_length_are_cut() {
 #[test]
 fn what_is_written_is_answered_as_it_is_tried() {
     for (message, pattern) in
-        [(SESSION, "e.1 (Meter e.2) e.3"), ("'a' (b ('c'))", "e.1 (e.2)"), ("?s.1.2 ?t.3.4 ?e.0.9", "e.x"), ("", "e.x")]
+        [(SESSION, "e.1 (Meter e.2) e.3"), ("'a' (b ('c'))", "e.1 (e.2)"), ("?s.1.2 ?t.3.4 ?e.18446744073709551615.9", "e.x"), ("", "e.x")]
     {
         let sheet = file("a.sheet", run(["sheet", message, pattern]).out);
         let answered = run(["answer", &sheet]);

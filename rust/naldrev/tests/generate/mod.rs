@@ -150,7 +150,11 @@ impl Random {
         (0..self.length()).map(|_| char::from(b'0' + self.below(10) as u8)).collect()
     }
 
-    fn word(&mut self) -> u32 {
+    fn level(&mut self) -> u64 {
+        [0, 1, 42, (1 << 32) - 1, 1 << 32, u64::MAX][self.below(6)]
+    }
+
+    fn index(&mut self) -> u32 {
         [0, 1, 42, u32::MAX][self.below(4)]
     }
 
@@ -174,7 +178,7 @@ impl Random {
             5 => Value::Number(self.number()),
             6 => {
                 let kind = [UnknownKind::Symbol, UnknownKind::Term, UnknownKind::Expression][self.below(3)];
-                Value::Unknown { kind, level: self.word(), index: self.word() }
+                Value::Unknown { kind, level: self.level(), index: self.index() }
             }
             // One bracket in another, as deep as it goes.
             _ if depth > 4 => (0..depth).fold(Value::Char('x'), |inner, _| Value::Bracket(vec![inner])),

@@ -5,10 +5,10 @@ use Rattle.cases.proofs.verbs.first_difference.Statement.{statement}
 use Rattle.cases.proofs.verbs.first_difference.Tie as tie
 
 abbrev Inv-loop : tie.InvT-loop
-Inv-loop have want i₀ i = i ≤ 6348
+Inv-loop have want i₀ i = i ≤ 7408
 
 abbrev μ-loop : tie.MeasureT-loop
-μ-loop have want i₀ i = 6348 - i
+μ-loop have want i₀ i = 7408 - i
 
 pub first-difference-spec : {M : Type 1} → statement M
 first-difference-spec =

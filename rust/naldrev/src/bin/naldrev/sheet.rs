@@ -34,7 +34,7 @@ pub const COMMAND: Command = Command {
     act: run,
 };
 
-/// The kind of a bracket in its record: kind, start, length, depth.
+/// The kind of a bracket in its record: kind, start, length, depth, 0.
 const BRACKET: u32 = 3;
 
 fn run(given: &Given, out: &mut Output) -> Outcome {
@@ -93,8 +93,7 @@ fn pair(words: &mut Vec<u32>, level: usize, times: usize) -> Result<(), Failure>
             if depth as usize == MAX_DEPTH {
                 return Err(Failure::new(format!("naldrev sheet: --pairs: brackets would lie over {MAX_DEPTH} deep")));
             }
-            let mut bracket = [0; TERM_WIDTH];
-            bracket[..4].copy_from_slice(&[BRACKET, (start + 2 * i) as u32, 2, depth + 1]);
+            let bracket: [u32; TERM_WIDTH] = [BRACKET, (start + 2 * i) as u32, 2, depth + 1, 0];
             words.extend(bracket);
         }
         within("terms of the message", words.len() / TERM_WIDTH, SHEET_TERMS)?;

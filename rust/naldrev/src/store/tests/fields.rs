@@ -103,11 +103,12 @@ fn flattened_in_the_store_or_in_the_work_buffer() {
     let (store, field) = store_of("ab");
     assert_eq!(store.flatten(field, &mut []), Ok(Flat::InStore(store.run(0, 2))));
     let (store, field) = scattered();
-    let mut work = [7; 12];
+    let mut work = [7; 3 * TERM_WIDTH];
     assert_eq!(store.flatten(field, &mut work), Ok(Flat::InWork(2)));
-    assert_eq!(work, [0, 97, 0, 0, 0, 99, 0, 0, 7, 7, 7, 7]);
-    assert_eq!(refusal(store.flatten(field, &mut [0; 4])), Refusal::WorkShort);
-    assert_eq!(refusal(store.flatten(field, &mut [0; 9])), Refusal::Uneven);
+    assert_eq!(work, [0, 97, 0, 0, 0, 0, 99, 0, 0, 0, 7, 7, 7, 7, 7]);
+    assert_eq!(refusal(store.flatten(field, &mut [0; TERM_WIDTH])), Refusal::WorkShort);
+    assert_eq!(refusal(store.flatten(field, &mut [0; 2 * TERM_WIDTH + 1])), Refusal::Uneven);
+    assert_eq!(refusal(store.flatten(field, &mut [0; 8])), Refusal::Uneven);
     assert_eq!(refusal(store.flatten(far(&store), &mut work)), Refusal::BadField);
 }
 

@@ -38,7 +38,7 @@ fn far(store: &Store) -> Field {
 }
 
 /// A store of one term and one node whose words are given.
-fn raw(term: [u32; 4], node: [u32; 6]) -> Store {
+fn raw(term: [u32; TERM_WIDTH], node: [u32; NODE_WIDTH]) -> Store {
     Store::from_parts(b"a1".to_vec(), term.to_vec(), 1, node.to_vec(), 1)
 }
 
@@ -50,7 +50,7 @@ fn refusal<T: std::fmt::Debug>(answer: Result<T, Error>) -> Refusal {
     }
 }
 
-const NIL: [u32; 6] = [0; 6];
-const CHAR: [u32; 4] = [0, 97, 0, 0];
-const BAD_TERM: [u32; 4] = [9, 0, 0, 0];
-const BAD_NODE: [u32; 6] = [1, 0, 0, 0, 0, 0];
+const NIL: [u32; NODE_WIDTH] = [0; NODE_WIDTH];
+const CHAR: [u32; TERM_WIDTH] = [0, 97, 0, 0, 0];
+const BAD_TERM: [u32; TERM_WIDTH] = [9, 0, 0, 0, 0];
+const BAD_NODE: [u32; NODE_WIDTH] = [1, 0, 0, 0, 0, 0];

@@ -1,7 +1,7 @@
 //! Making a store, adding terms and reading them back.
 
 use super::*;
-use crate::pattern::e;
+use crate::pattern::{e, Pattern};
 use crate::value::{Expression, UnknownKind};
 
 #[test]
@@ -9,17 +9,17 @@ fn a_new_store_has_node_0_alone() {
     let store = Store::default();
     assert_eq!((store.terms_used(), store.nodes_used()), (0, 1));
     assert!(store.names().is_empty());
-    assert_eq!((store.term_words().len(), store.node_words().len()), (64 * 4, 16 * 6));
+    assert_eq!((store.term_words().len(), store.node_words().len()), (64 * TERM_WIDTH, 16 * NODE_WIDTH));
 }
 
 #[test]
 fn capacity_is_kept_within_the_limits() {
     let all = Capacity { terms: usize::MAX, nodes: usize::MAX, max_terms: usize::MAX, max_nodes: usize::MAX };
     let store = Store::with_capacity(all);
-    assert_eq!((store.term_words().len(), store.node_words().len()), (MAX_TERMS * 4, MAX_NODES * 6));
+    assert_eq!((store.term_words().len(), store.node_words().len()), (MAX_TERMS * TERM_WIDTH, MAX_NODES * NODE_WIDTH));
     let none = Capacity { terms: 0, nodes: 0, max_terms: 0, max_nodes: 0 };
     let mut store = Store::with_capacity(none);
-    assert_eq!((store.term_words().len(), store.node_words().len()), (0, 6));
+    assert_eq!((store.term_words().len(), store.node_words().len()), (0, NODE_WIDTH));
     assert_eq!(refusal(store.add_char('a')), Refusal::TermsFull);
     assert!(store.from_runs(&[]).unwrap().is_empty());
 }
@@ -33,7 +33,7 @@ fn parts_are_taken_as_they_are() {
 #[test]
 fn every_kind_of_term_comes_back() {
     let mut store = Store::new();
-    let unknown = |kind| Value::Unknown { kind, level: 3, index: u32::MAX };
+    let unknown = |kind| Value::Unknown { kind, level: 3 << 32 | 5, index: u32::MAX };
     let mut values = vec![
         Value::Char('\u{10ffff}'),
         Value::Identifier("Day-1_x".into()),
@@ -152,14 +152,14 @@ fn terms_grow_up_to_their_limit() {
     assert_eq!(refusal(store.add_unknown(UnknownKind::Term, 0, 0)), Refusal::TermsFull);
     assert_eq!(refusal(store.add_identifier("Day")), Refusal::TermsFull);
     assert!(store.names().is_empty());
-    assert_eq!(store.term_words().len(), 3 * 4);
+    assert_eq!(store.term_words().len(), 3 * TERM_WIDTH);
 }
 
 #[test]
 fn a_count_past_its_slice_takes_no_terms() {
-    let mut store = Store::from_parts(Vec::new(), vec![0; 4], 2, NIL.to_vec(), 1);
+    let mut store = Store::from_parts(Vec::new(), CHAR.to_vec(), 2, NIL.to_vec(), 1);
     assert_eq!(refusal(store.add_char('a')), Refusal::Uneven);
-    let mut store = Store::from_parts(Vec::new(), vec![0; 5], 0, NIL.to_vec(), 1);
+    let mut store = Store::from_parts(Vec::new(), vec![0; TERM_WIDTH + 1], 0, NIL.to_vec(), 1);
     assert_eq!(refusal(store.add_char('a')), Refusal::Uneven);
 }
 
@@ -176,15 +176,31 @@ fn read_back_from_scattered_runs() {
 #[test]
 fn words_made_elsewhere_are_looked_at() {
     // An unknown kind of term, no character, a text past the names, no kind of unknown, and a bracket that holds itself.
-    for term in [BAD_TERM, [0, 0xD800, 0, 0], [1, 1, 2, 0], [4, 3, 0, 0], [3, 0, 1, 1]] {
+    for term in [BAD_TERM, [0, 0xD800, 0, 0, 0], [1, 1, 2, 0, 0], [4, 3, 0, 0, 0], [3, 0, 1, 1, 0]] {
         let store = raw(term, NIL);
         let terms = store.terms(store.run(0, 1)).unwrap();
         assert_eq!(refusal(terms.read()), Refusal::BadTerm, "{term:?}");
     }
-    let store = raw([3, 1, 1, 1], NIL);
+    let store = raw([3, 1, 1, 1, 0], NIL);
     let terms = store.terms(store.run(0, 1)).unwrap();
     assert_eq!(refusal(terms.read()), Refusal::PastEnd);
     assert_eq!(terms.to_string(), "...");
+}
+
+#[test]
+fn a_fifth_word_where_no_level_is() {
+    for [kind, a, b, c] in [[0, 97, 0, 0], [1, 0, 1, 0], [2, 1, 1, 0], [3, 0, 0, 1]] {
+        let mut good = raw([kind, a, b, c, 0], NIL);
+        let run = good.run(0, 1);
+        assert_eq!(good.from_runs(&[run]).unwrap().len(), 1);
+        assert_eq!(good.terms(run).unwrap().read().unwrap().len(), 1);
+        let mut bad = raw([kind, a, b, c, 1], NIL);
+        let run = bad.run(0, 1);
+        assert_eq!(refusal(bad.from_runs(&[run])), Refusal::BadTerm);
+        assert_eq!(refusal(bad.compare_runs(run, run)), Refusal::BadTerm);
+        assert_eq!(refusal(bad.terms(run).unwrap().read()), Refusal::BadTerm);
+        assert_eq!(bad.terms(run).unwrap().to_string(), "...");
+    }
 }
 
 /// Each bracket holds the pair of brackets below it: 2^24 leaves.
@@ -226,4 +242,48 @@ fn many_texts_are_added_in_linear_time() {
     let mut store = Store::new();
     let run = store.add(&values).unwrap();
     assert_eq!(store.terms(run).unwrap().read().unwrap().0, values);
+}
+
+// ---- levels ----
+
+/// The ends of the range, the last level whose upper half is 0, and the first above it.
+const LEVELS: [u64; 4] = [0, (1 << 32) - 1, 1 << 32, u64::MAX];
+
+#[test]
+fn levels_stand_in_two_words() {
+    let mut store = Store::new();
+    for level in LEVELS {
+        store.add_unknown(UnknownKind::Term, level, 7).unwrap();
+    }
+    let most = u32::MAX;
+    let words = [[4, 1, 0, 7, 0], [4, 1, most, 7, 0], [4, 1, 0, 7, 1], [4, 1, most, 7, most]];
+    assert_eq!(store.term_words()[..4 * TERM_WIDTH], *words.as_flattened());
+}
+
+#[test]
+fn levels_come_back() {
+    let mut store = Store::new();
+    let text = LEVELS.map(|level| format!("?s.{level}.1")).join(" ");
+    let values: Expression = text.parse().unwrap();
+    let run = store.add(&values).unwrap();
+    let field = store.from_runs(&[store.run(1, 3), store.run(0, 1)]).unwrap();
+    assert_eq!(store.terms(run).unwrap().read().as_ref(), Ok(&values));
+    assert_eq!(store.terms(run).unwrap().to_string(), text);
+    // The field is no single run: its terms go through the work buffer.
+    assert_eq!(store.values(field).unwrap().0, [&values[1..], &values[..1]].concat());
+}
+
+#[test]
+fn unknowns_are_equal_by_the_whole_level() {
+    let mut store = Store::new();
+    let run = store.add(&"?s.5.1 ?s.4294967301.1 ?s.5.1 ?s.4294967300.1 ?s.4294967301.1".parse::<Expression>().unwrap()).unwrap();
+    let equal = |first: usize, second: usize| store.compare_runs(store.run(first, 1), store.run(second, 1)).unwrap();
+    assert!(equal(0, 2) && equal(1, 4));
+    assert!(!equal(0, 1), "the lower half alone is equal");
+    assert!(!equal(1, 3), "the upper half alone is equal");
+    let pattern = store.prepare(&"e.1 s.x e.2 s.x".parse::<Pattern>().unwrap()).unwrap();
+    let field = store.from_runs(&[run]).unwrap();
+    let listing = store.candidates(field, &pattern, &Bindings::NONE, 2).unwrap();
+    assert_eq!((listing.len(), listing.more()), (1, false));
+    assert_eq!(listing.get(0).unwrap().run("s.x"), Some(store.run(1, 1)));
 }
