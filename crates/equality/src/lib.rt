@@ -34,7 +34,7 @@ fn equal_terms_within(names: &[u8], terms: &[u32], i: usize, j: usize, budget: u
     if t.kind != u.kind {
         return Outcome::Different;
     }
-    // Chars are the most frequent terms. Seen to first, their words after the first need not be read.
+    // Chars are the most frequent terms. Compared here, they are read no further than their value.
     if t.kind == words::CHAR {
         if t.a != u.a {
             return Outcome::Different;

@@ -199,8 +199,8 @@ fn copy_words_up(words: &mut [u32], from: usize, to: usize, n: usize)
     }
 }
 
-// The words of a run of terms, as `copy_words` copies them. A rope joined term by term has runs of one: their copy takes no loop, since the
-// compiler knows its length.
+// The n words of a run of terms, as `copy_words` copies them. A rope joined term by term has runs of one term; that the compiler knows their
+// length spares the loop.
 fn copy_run(source: &[u32], target: &mut [u32], from: usize, to: usize, n: usize)
     requires { ⌜ (from + n ≤ length (now source)) × (to + n ≤ length (now target)) ⌝ }
     ensures { λ _.
