@@ -11,13 +11,13 @@ use native.Mathlib.Omega.{arith}
 use Rattle.term_spec.specs.BoolLaws.{both-of, and-of, eq→eqb, T-true, Test, holds, fails, test}
 use Rattle.term_spec.specs.ListLaws.{part-length}
 use Rattle.term_spec.specs.Words.{count, whole}
-use Rattle.term_spec.specs.Term.{termLayout, runLayout}
-use Rattle.match_spec.specs.Pattern.{itemLayout}
+use Rattle.term_spec.specs.Term.{termLayout, runLayout, runListLimit}
+use Rattle.match_spec.specs.Pattern.{itemLayout, patternLimit}
 use Rattle.sheet_spec.specs.LineLaws.{line-length, lines-length, words-length, parts-join, parts-left, parts-right, part-byte, byte-part, line-read}
 use Rattle.sheet_spec.specs.LineLaws.{read-line, lines-read, read-lines, words-below}
 use Rattle.sheet_spec.specs.Sheet.{line, lines, Sheet, limits, sheetText, sheetRule, beyond, wordsBelow, lineWidth, numberAt, lineOk, linesOk}
 use Rattle.sheet_spec.specs.Sheet.{numbersAt, wordsAt, Counts, countsAt, termsStart, namesStart, patternStart, runsStart, sheetEnd, headRule}
-use Rattle.sheet_spec.specs.Sheet.{bodyRule, sheetAt, readSheet, countColumns, termColumns, itemColumns, runColumns, runZeros}
+use Rattle.sheet_spec.specs.Sheet.{bodyRule, sheetAt, readSheet, sheetTerms, sheetNames, countColumns, termColumns, itemColumns, runColumns, runZeros}
 
 -- ---- rules as facts ----
 
@@ -33,28 +33,29 @@ countsOf s = record {
 
 -- Counts within the limits.
 pub record Limited (t n p r : ℕ) : Type 0 where
-  pub terms : t ≤ 512
-  pub names : n ≤ 4096
-  pub pattern : p ≤ 256
-  pub runs : r ≤ 64
+  pub terms : t ≤ sheetTerms
+  pub names : n ≤ sheetNames
+  pub pattern : p ≤ patternLimit
+  pub runs : r ≤ runListLimit
 
 -- They follow from the test.
 pub limits-facts : (t n p r : ℕ) → T (limits t n p r) → Limited t n p r
 unfolding limits
 limits-facts t n p r h =
-    let (x, d) = both-of (leb t 512 && leb n 4096 && leb p 256) (leb r 64) h in
-    let (y, c) = both-of (leb t 512 && leb n 4096) (leb p 256) x in
-    let (a, b) = both-of (leb t 512) (leb n 4096) y in
-    record { terms = leb→le t 512 a; names = leb→le n 4096 b; pattern = leb→le p 256 c; runs = leb→le r 64 d }
+    let (x, d) = both-of (leb t sheetTerms && leb n sheetNames && leb p patternLimit) (leb r runListLimit) h in
+    let (y, c) = both-of (leb t sheetTerms && leb n sheetNames) (leb p patternLimit) x in
+    let (a, b) = both-of (leb t sheetTerms) (leb n sheetNames) y in
+    record { terms = leb→le t sheetTerms a; names = leb→le n sheetNames b; pattern = leb→le p patternLimit c; runs = leb→le r runListLimit d }
 
 -- And the test from them.
 pub facts-limits : (t n p r : ℕ) → Limited t n p r → T (limits t n p r)
 unfolding limits
 facts-limits t n p r h =
-    and-of (leb t 512 && leb n 4096 && leb p 256) (leb r 64)
-    (and-of (leb t 512 && leb n 4096) (leb p 256) (and-of (leb t 512) (leb n 4096) (le→leb t 512 (h .terms)) (le→leb n 4096 (h .names)))
-    (le→leb p 256 (h .pattern)))
-    (le→leb r 64 (h .runs))
+    and-of (leb t sheetTerms && leb n sheetNames && leb p patternLimit) (leb r runListLimit)
+    (and-of (leb t sheetTerms && leb n sheetNames) (leb p patternLimit)
+    (and-of (leb t sheetTerms) (leb n sheetNames) (le→leb t sheetTerms (h .terms)) (le→leb n sheetNames (h .names)))
+    (le→leb p patternLimit (h .pattern)))
+    (le→leb r runListLimit (h .runs))
 
 -- What makes a sheet writable: whole records, counts within the limits.
 pub record Writable (s : Sheet) : Type 0 where
@@ -105,8 +106,8 @@ parts-of : (t A B N P R : List ℕ) (b n p r : ℕ) → length A ≡ termsStart 
     → t ≡ A ++ (B ++ (N ++ ((10 ∷ []) ++ (P ++ R)))) → Parts t A B N P R b n p r
 parts-of t A B N P R b n p r ha hb hn hp hr e =
     let z : length t ≡ termsStart + b + n + 1 + p + r = ap length e ∙ parts-length A B N P R b n p r ha hb hn hp hr in
-    let e0 : take (termsStart + (b + (n + (1 + (p + r))))) (drop 0 t) ≡ A ++ (B ++ (N ++ ((10 ∷ []) ++ (P ++ R)))) = take-all (termsStart + (b + (n + (1 + (p + r))))) t
-    (omega arith) ∙ e in
+    let e0 : take (termsStart + (b + (n + (1 + (p + r))))) (drop 0 t) ≡ A ++ (B ++ (N ++ ((10 ∷ []) ++ (P ++ R)))) =
+    take-all (termsStart + (b + (n + (1 + (p + r))))) t (omega arith) ∙ e in
     let e1 = parts-right t A (B ++ (N ++ ((10 ∷ []) ++ (P ++ R)))) 0 termsStart (b + (n + (1 + (p + r)))) ha e0 in
     let e2 = parts-right t B (N ++ ((10 ∷ []) ++ (P ++ R))) termsStart b (n + (1 + (p + r))) hb e1 in
     let e3 = parts-right t N ((10 ∷ []) ++ (P ++ R)) (termsStart + b) n (1 + (p + r)) hn e2 in

@@ -11,7 +11,8 @@ use Rattle.term_spec.specs.BoolLaws.{both-of, and-of, eq→eqb}
 use Rattle.term_spec.specs.ListLaws.{part-kept}
 use Rattle.term_spec.specs.TableLaws.{table-length, table-kept}
 use Rattle.term_spec.specs.Text.{textAt}
-use Rattle.term_spec.specs.Term.{Term, noTerm, Run, part, bracketKind, depthLimit, contentsRun, deepest, runRule, bracketRule, termRuleK, upperRule, termRule, termsRule}
+use Rattle.term_spec.specs.Term.{Term, noTerm, Run, part, bracketKind, depthLimit, contentsRun, deepest}
+use Rattle.term_spec.specs.Term.{runRule, bracketRule, termRuleK, upperRule, termRule, termsRule}
 use Rattle.term_spec.specs.Value.{Value, bracketed, valueK, valueOf, values}
 
 -- ---- rules ----

@@ -4,7 +4,7 @@ use mathlib.Core.List.{List, [], _∷_}
 use mathlib.Core.Option.{Option, some, none}
 use mathlib.Core.Bool.{Bool, true, false}
 use lib.ListN.{getD}
-use Prim.Native.Nat.{ℕ, suc, zero}
+use Prim.Native.Nat.{ℕ, suc, zero, _+_, _*_, _<_, _^_}
 use native.Mathlib.Omega.{arith}
 use Rattle.term_spec.specs.Value.{Value, Values, char, ident, num, bracket, unknown, nil, cons, toList, fromList, bracketed, contents}
 use Rattle.term_spec.specs.Value.{canon, canons, Equal, forms, isYes, takesTable, unknownColumn, column, takesRow, Single, symbol, term, row, takes}
@@ -75,6 +75,26 @@ equal-trans u v w e q = e ∙ q
 
 pub equal-brackets : (l m : List Value) → Equal (bracketed l) (bracketed m) → forms l ≡ forms m
 equal-brackets l m e = bracketed-same (forms l) (forms m) (sym (canon-bracketed l) ∙ e ∙ canon-bracketed m)
+
+-- A level of 64 bits, from its lower and its upper half (02: 2.7).
+abbrev pub levelOf : ℕ → ℕ → ℕ
+levelOf l u = l + 2 ^ 32 * u
+
+-- Levels are the same exactly where both halves are, the halves being words.
+levels-same : (l u m v : ℕ) → l < 2 ^ 32 → m < 2 ^ 32 → levelOf l u ≡ levelOf m v → (l ≡ m) × (u ≡ v)
+levels-same l u m v h g e = (omega arith, omega arith)
+
+-- "unknowns by kind, level and index": both ways.
+module _ (j l u i k m v n : ℕ) (h : l < 2 ^ 32) (g : m < 2 ^ 32) where
+  pub equal-unknowns : j ≡ k → levelOf l u ≡ levelOf m v → i ≡ n → Equal (unknown j l u i) (unknown k m v n)
+  equal-unknowns p e q = let (x, y) = levels-same l u m v h g e in rw (p, x, y, q) refl
+
+  pub unknowns-equal : Equal (unknown j l u i) (unknown k m v n) → (j ≡ k) × (levelOf l u ≡ levelOf m v) × (i ≡ n)
+  unfolding canon
+  unknowns-equal e =
+      let x : l ≡ m = cc in
+      let y : u ≡ v = cc in
+      (cc, rw (x, y) refl, cc)
 
 -- "Different kinds are never equal": equal terms stand in the same column of the table.
 column-canon : (v : Value) → column (canon v) ≡ column v
