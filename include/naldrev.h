@@ -49,7 +49,7 @@ extern "C" {
 
 /* What a call needs of stack at most, in bytes, whatever it is lent. It is measured with the library as it is built, on the inputs found to
    need the most (tools/stack), and rounded up; it is not proved. What the caller's own functions take comes on top. */
-#define NALDREV_STACK_BYTES 393216
+#define NALDREV_STACK_BYTES 524288
 
 /* ---- numbers that a function returns ---- */
 

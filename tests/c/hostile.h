@@ -1,8 +1,8 @@
 /* Inputs on which calls need the most stack that is known.
 
-   Two terms are compared within a budget first. Where contents are shared so often that it is spent, the comparison starts again with a table
-   of what is known to be equal; a run of over half the used terms goes in two parts, which is one call more. Below the table it calls itself
-   once for each bracket in a bracket. A listing makes the comparison at its last pattern record, below one call for each record.
+   Two terms are compared within a budget first. Where contents are shared so often that it is spent, all terms are numbered, with tables of some
+   200 KB. A listing compares at its last pattern record, below one call for each record, with words for the numbers set aside; comparing two
+   fields then reads their places part by part, with a table of 256 KB.
 
    The row of terms P X Q Y P X Q Y .. has all of it. It is compared with itself two terms further: P with Q, which spends the budget, then X
    with Y, which are deep. P and Q are towers of brackets, each with the one below it in it twice; X and Y end chains of brackets. */

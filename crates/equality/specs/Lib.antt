@@ -1,6 +1,7 @@
 pub mod Compare
 pub mod CompareLaws
-pub mod Known
-pub mod KnownLaws
-pub mod RunLaws
+pub mod Memory
+pub mod MemoryLaws
 pub mod TwoLaws
+pub mod Within
+pub mod WithinLaws

@@ -9,7 +9,7 @@ use Rattle.term_spec.specs.Term.{Term, Run, termLayout, charKind, bracketKind, 
 use Rattle.value.specs.Equal.{Texts, equalSymbols, equalAt}
 use Rattle.value.specs.EqualLaws.{depthAt, deepestIn, texts-at, symbols-apart, symbols-chars, contents-below, contents-shallow, at-differ, at-symbols}
 use Rattle.value.specs.EqualLaws.{at-brackets, runsFrom, runs-more}
-use Rattle.equality.specs.Known.{TermsIn, RunsIn, sameRuns}
+use Rattle.equality.specs.Within.{TermsIn, RunsIn, sameRuns}
 
 -- ---- two terms that were read ----
 

@@ -179,7 +179,7 @@ module _ (s : Store) (m : Request) (entries : ℕ) (numbers : List ℕ) (run : R
   used-size : length (terms s ++ fieldCopy s (m .field)) ≡ used
   used-size = length-append (terms s) (fieldCopy s (m .field)) ∙ omega (arith, size-terms, o .used-is)
 
-  room-terms : (used ≤ limit) × Lies termLayout (s .termWords) used
+  pub room-terms : (used ≤ limit) × Lies termLayout (s .termWords) used
   unfolding capacity count
   room-terms =
       let h : s .termsUsed + length (fieldCopy s (m .field)) ≤ min (length (s .termWords) / termLayout .width) limit = leb-true _ _ (o .fits) in

@@ -1,21 +1,25 @@
 -- What a listing answers and leaves, as the specification has it.
 use mathlib.Core.Path.{_≡_}
-use mathlib.Core.List.{List, [], _∷_}
+use mathlib.Core.List.{List, [], _∷_, map}
 use mathlib.Core.Option.{Option, none}
 use mathlib.Core.Bool.{Bool, _&&_}
 use lib.Dec.{leb}
-use Prim.Native.Nat.{ℕ}
+use lib.ListN.{length}
+use Prim.Native.Nat.{ℕ, _+_, _*_, _<_, _≤_}
 use Rattle.term_spec.specs.Words.{whole, count, records}
-use Rattle.term_spec.specs.Term.{Run, runsRule}
+use Rattle.term_spec.specs.Term.{Run, runsRule, limit}
 use Rattle.term_spec.specs.Refusal.{uneven, badTerm, badNode, badField, pastEnd, badPattern, badBinding, moreThanFit}
 use Rattle.view_spec.specs.Node.{Field, fieldRule}
-use Rattle.match_spec.specs.Pattern.{itemLayout, bindingLayout, patternRule, bindingsRule, patternLimit}
+use Rattle.match_spec.specs.Pattern.{itemLayout, bindingLayout, boundRun, patternRule, bindingsRule, patternLimit, nameLimit}
 use Rattle.match_spec.specs.Walk.{Event, walk}
 use Rattle.calls_spec.specs.Store.{Store, nodes, countsRule, storeTerms, storeNodes}
 use Rattle.calls_spec.specs.Step.{Request, Answer, refused, listed, After, ask, bindings, startRuns}
 use Rattle.steps.specs.State.{Place, levelsOf, entriesOf, LevelRoom, EntryRoom}
+use Rattle.words.specs.declared.Run.{Run as CodeRun}
+use Rattle.words.specs.Records.{asRun}
+use Rattle.matcher.specs.declared.Goal.{Goal}
 use Rattle.matcher.specs.declared.Tally.{Tally}
-use Rattle.matcher.specs.Ready.{Given, readingOf, patternFrom, Ready}
+use Rattle.matcher.specs.Ready.{Given, readingOf, patternFrom, Ready, SlotsReady, Written}
 use Rattle.listing.specs.declared.Matched.{Matched}
 use Rattle.listing.specs.declared.Matched.the-variants.{Listed, More, Refused}
 
@@ -65,3 +69,14 @@ ReadyToStart v m r start = (st : Place) → levelsOf st ≡ r ∷ [] → entries
 -- The events of the specification's walk over the run r with the start's runs.
 abbrev pub eventsAt : Given → Run → List Run → List (Event (List Run))
 eventsAt v r start = walk (readingOf v) (patternFrom v 0) (r ∷ []) start
+
+-- The same on the words and counts that the code has: the start's bindings are few, and the slots are ready.
+pub record CanStart (v : Given) (bindings : List ℕ) (run : CodeRun) (g : Goal) (slots : List ℕ) : Type 0 where
+  pub few-terms : v .used ≤ limit
+  pub few : length bindings < (nameLimit + 1) * bindingLayout .width
+  pub ready : ReadyToStart v (g .entries) (asRun run) (map boundRun (records bindingLayout bindings))
+  pub open-slots : SlotsReady g noTally slots
+
+-- The candidates of these events are written.
+abbrev pub Started : Given → List ℕ → CodeRun → Goal → Tally → List ℕ → List ℕ → Type 0
+Started v bindings run g r before after = Written g (eventsAt v (asRun run) (map boundRun (records bindingLayout bindings))) noTally r before after

@@ -1,27 +1,24 @@
 // Listing and first match as calls: the checks, the settled field, the walk, the answer. From matcher.rs
 // (`match_pattern_with_bindings_candidates`, `match_pattern_first`); refusals but 10 and 11 are the port's.
+mod walks;
+
 use matcher::Goal;
 use matcher::Tally;
 use matcher::status;
-use steps::State;
 use view::Field;
 use view_read::Settled;
-use words::Run;
 use words::refusal;
 ghost use mathlib.Core.Path.{_≡_};
-ghost use mathlib.Core.List.{List, map};
-ghost use Prim.Native.Nat.{_+_, _*_, _<_, _≤_};
+ghost use mathlib.Core.List.{List};
+ghost use Prim.Native.Nat.{_≤_};
 ghost use lib.ListN.{length};
-ghost use Rattle.term_spec.specs.Words.{count, records};
 ghost use Rattle.term_spec.specs.Term.{Run as SpecRun};
-ghost use Rattle.match_spec.specs.Pattern.{bindingLayout, boundRun, nameLimit};
+ghost use Rattle.match_spec.specs.Pattern.{nameLimit};
 ghost use Rattle.match_spec.specs.Answer.{allOfThem, headOnly, slotsIn, numberOf};
 ghost use Rattle.calls_spec.specs.Step.{callMatch, step, matchAnswer, nameCount};
 ghost use Rattle.view.specs.Check.{asField, storeOf, numbered};
-ghost use Rattle.words.specs.Records.{asRun};
-ghost use Rattle.steps.specs.State.{entriesIn, EntryRoom};
-ghost use Rattle.matcher.specs.Ready.{givenOf, statusOf, wantedOf, SlotsReady, Written};
-ghost use Rattle.listing.specs.Match.{matchedOf, leavesSlots, requestOf, evenWords, refusedTo8, noTally, ReadyToStart, eventsAt};
+ghost use Rattle.matcher.specs.Ready.{statusOf, wantedOf};
+ghost use Rattle.listing.specs.Match.{matchedOf, leavesSlots, requestOf, evenWords, refusedTo8};
 
 // What a listing answers: all candidates, with their count and the number of names; the slots are full and a further candidate exists; a
 // refusal.
@@ -110,72 +107,6 @@ pub fn name_count(names: &[u8], pattern: &[u32], bindings: &[u32]) -> usize
     found
 }
 
-// The start's entries become the first runs of `binds`.
-fn start(bindings: &[u32], binds: &mut [u32])
-    requires { ⌜ (length (now bindings) < (nameLimit + 1) * bindingLayout .width) × EntryRoom (now binds) ⌝ }
-    ensures { λ _.
-        let bindings = now (bindings .entry) in
-        ⌜ entriesIn (count bindingLayout bindings) (now (binds .exit)) ≡ map boundRun (records bindingLayout bindings) ⌝ }
-{
-    let n = bindings.len() / items::BINDING_WIDTH;
-    let mut i = 0;
-    while i < n {
-        binds[2 * i] = bindings[5 * i + 3];
-        binds[2 * i + 1] = bindings[5 * i + 4];
-        i += 1;
-    }
-}
-
-// The walk over a settled run from the start's entries, with the words of its levels and entries.
-fn walk_from(
-    names: &[u8],
-    terms: &[u32],
-    used: usize,
-    pattern: &[u32],
-    numbers: &[u32],
-    bindings: &[u32],
-    run: Run,
-    g: Goal,
-    slots: &mut [u32],
-) -> Tally
-    requires few { ⌜ length (now bindings) < (nameLimit + 1) * bindingLayout .width ⌝ }
-    requires ready { let given = givenOf (now names) (now terms) used (now pattern) (now numbers) in
-        let start = map boundRun (records bindingLayout (now bindings)) in
-        ⌜ ReadyToStart given (g .entries) (asRun run) start × SlotsReady g noTally (now slots) ⌝ }
-    ensures { λ r.
-        let given = givenOf (now (names .entry)) (now (terms .entry)) used (now (pattern .entry)) (now (numbers .entry)) in
-        let start = map boundRun (records bindingLayout (now (bindings .entry))) in
-        ⌜ Written g (eventsAt given (asRun run) start) noTally r (now (slots .entry)) (now (slots .exit)) ⌝ }
-{
-    let mut levels = [0u32; steps::LEVEL_WORDS];
-    let mut binds = [0u32; steps::ENTRY_WORDS];
-    start(bindings, &mut binds);
-    let at = State {
-        start: run.start,
-        len: run.len,
-        depth: 0,
-        bound: bindings.len() / items::BINDING_WIDTH,
-    };
-    let none = Tally {
-        stop: status::GOING,
-        count: 0,
-    };
-    matcher::walk(
-        names,
-        terms,
-        used,
-        pattern,
-        numbers,
-        0,
-        at,
-        &mut levels,
-        &mut binds,
-        g,
-        slots,
-        none,
-    )
-}
-
 // The slots that fit whole; with no names there is one, of no words.
 fn slots_in(words: usize, names: usize) -> usize
     requires { ⌜ names ≤ nameLimit ⌝ }
@@ -252,7 +183,7 @@ fn list(
         Settled::At(run) => {
             let cap = slots_in(slots.len(), entries);
             let g = Goal { entries, cap, head };
-            let tally = walk_from(
+            let tally = walks::walk_from(
                 names,
                 terms,
                 *terms_used,

@@ -9,6 +9,7 @@ ghost use mathlib.Core.List.{[], _∷_};
 ghost use Prim.Native.Nat.{_≤_};
 ghost use Rattle.match_spec.specs.Pattern.{nameLimit};
 ghost use Rattle.match_spec.specs.Walk.{hit};
+ghost use Rattle.equality.specs.Memory.{Memory};
 ghost use Rattle.steps.specs.State.{placeOf, entriesIn, EntryRoom};
 ghost use Rattle.matcher.specs.Ready.{givenOf, eventsFrom, Ready, CanTurn, TurnTaken, SlotsReady, Written, Walked};
 
@@ -79,14 +80,18 @@ fn take_turn(
     s: State,
     levels: &mut [u32],
     binds: &mut [u32],
+    known: &mut [u16],
 ) -> Taken
     requires { let given = givenOf (now names) (now terms) used (now pattern) (now numbers) in
-        ⌜ CanTurn given p (placeOf s (now levels) (now binds)) ⌝ }
+        ⌜ CanTurn given p (placeOf s (now levels) (now binds)) × Memory (now names) (now terms) used (now known) ⌝ }
     ensures { λ r.
         let given = givenOf (now (names .entry)) (now (terms .entry)) used (now (pattern .entry)) (now (numbers .entry)) in
         let here = placeOf s (now (levels .entry)) (now (binds .entry)) in
         let after = placeOf (r .state) (now (levels .exit)) (now (binds .exit)) in
-        ⌜ TurnTaken given p here (r .what) after (r .start) (r .len) ⌝ }
+        ⌜
+        TurnTaken given p here (r .what) after (r .start) (r .len)
+        × Memory (now (names .entry)) (now (terms .entry)) used (now (known .exit))
+        ⌝ }
 {
     let t = items::get_item(pattern, p);
     let x = words::word(numbers, p);
@@ -102,7 +107,7 @@ fn take_turn(
     let d = s.depth;
     let start = levels[2 * d];
     let len = levels[2 * d + 1];
-    let turned = steps::turn(names, terms, used, t, x, last, s, levels, binds);
+    let turned = steps::turn(names, terms, used, t, x, last, s, levels, binds, known);
     let what = turned.what;
     let state = turned.state;
     Taken {
@@ -125,18 +130,19 @@ pub fn walk(
     s: State,
     levels: &mut [u32],
     binds: &mut [u32],
+    known: &mut [u16],
     g: Goal,
     slots: &mut [u32],
     f: Tally,
 ) -> Tally
     requires ready { let given = givenOf (now names) (now terms) used (now pattern) (now numbers) in
-        ⌜ Ready given p (g .entries) (placeOf s (now levels) (now binds)) ⌝ }
+        ⌜ Ready given p (g .entries) (placeOf s (now levels) (now binds)) × Memory (now names) (now terms) used (now known) ⌝ }
     requires open_slots { ⌜ SlotsReady g f (now slots) ⌝ }
     ensures { λ r.
         let given = givenOf (now (names .entry)) (now (terms .entry)) used (now (pattern .entry)) (now (numbers .entry)) in
         let here = placeOf s (now (levels .entry)) (now (binds .entry)) in
         let walked = Walked g (eventsFrom given p here) f r (now (slots .entry)) (now (slots .exit)) here in
-        ⌜ walked (now (levels .exit)) (now (binds .exit)) ⌝ }
+        ⌜ walked (now (levels .exit)) (now (binds .exit)) × Memory (now (names .entry)) (now (terms .entry)) used (now (known .exit)) ⌝ }
 {
     if pattern.len() / items::ITEM_WIDTH <= p {
         if s.len != 0 {
@@ -145,7 +151,18 @@ pub fn walk(
         return emit(binds, g, slots, f);
     }
     let d = s.depth;
-    let taken = take_turn(names, terms, used, pattern, numbers, p, s, levels, binds);
+    let taken = take_turn(
+        names,
+        terms,
+        used,
+        pattern,
+        numbers,
+        p,
+        s,
+        levels,
+        binds,
+        known,
+    );
     let what = taken.what;
     let at = taken.state;
     match what {
@@ -165,6 +182,7 @@ pub fn walk(
                 at,
                 levels,
                 binds,
+                known,
                 g,
                 slots,
                 f,
@@ -185,6 +203,7 @@ pub fn walk(
                 at,
                 binds,
                 0,
+                known,
             );
             while k <= len {
                 let given = steps::give(at, k, binds);
@@ -198,6 +217,7 @@ pub fn walk(
                     given,
                     levels,
                     binds,
+                    known,
                     g,
                     slots,
                     got,
@@ -215,6 +235,7 @@ pub fn walk(
                     at,
                     binds,
                     k + 1,
+                    known,
                 );
             }
             got

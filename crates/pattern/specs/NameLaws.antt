@@ -2,19 +2,20 @@
 use mathlib.Core.Path.{_≡_, refl, ap, sym, _∙_}
 use mathlib.Core.List.{List, [], _∷_, _++_}
 use mathlib.Core.Bool.{true, false}
-use lib.ListN.{length, getD, take, drop, length-map}
+use lib.ListN.{length, getD, take, drop, length-map, List·getD-map}
 use lib.Seq.{getD-take, drop-length, length-take-le}
-use Prim.Native.Nat.{ℕ, suc, _+_, _<_, _≤_}
+use Prim.Native.Nat.{ℕ, suc, zero, _+_, _<_, _≤_}
 use native.Mathlib.Omega.{arith}
 use Rattle.term_spec.specs.ListLaws.{entry-next, map-next}
 use Rattle.term_spec.specs.Words.{Lies, decode, recordAt, count, records}
-use Rattle.term_spec.specs.WordsLaws.{decode-length, record-next}
+use Rattle.term_spec.specs.WordsLaws.{decode-length, decode-at, record-next}
 use Rattle.term_spec.specs.Text.{textAt}
 use Rattle.term_spec.specs.Value.{isYes, canon}
 use Rattle.term_spec.specs.ValueLaws.{is-no, alike}
 use Rattle.text.specs.Texts.{identifiersEqual}
 use Rattle.match_spec.specs.Pattern.{Item, itemLayout, Binding, bindingLayout, Name, nameAt, name?, findHere, find, bindingName, bindingNames}
 use Rattle.match_spec.specs.NameLaws.{find-le, find-kept}
+use Rattle.pattern.specs.Apart.{nameIn}
 use Rattle.pattern.specs.Records.{bindingsIn, sameName, itemName, firstNames, tableAt, BindingTexts, ItemTexts}
 
 -- ---- when two names are one ----
@@ -59,6 +60,32 @@ module _ (x : Name) (t : List Name) (i : ℕ) where
       let z : drop i t ≡ [] = ap (λ k. drop k t) q ∙ drop-length t in
       omega (arith, rw (z, find) at h)
 
+-- what stands where a name is found is that name
+pub find-at : (x : Name) (t : List Name) (d : Name) → find x t < length t → getD t (find x t) d ≡ x
+unfolding find findHere
+find-at x [] d h = absurd (omega arith)
+find-at x (y ∷ t) d h = go (name? x y) (find-at x t d) h
+  where
+    go : (q : Dec (x ≡ y)) → (find x t < length t → getD t (find x t) d ≡ x) → findHere q (find x t) < suc (length t)
+        → getD (y ∷ t) (findHere q (find x t)) d ≡ x
+    go (yes e) ih k = sym e
+    go (no e) ih k = ih (omega arith)
+
+-- a name is found where it stands, or before
+pub find-before : (x : Name) (t : List Name) (d : Name) (i : ℕ) → i < length t → getD t i d ≡ x → find x t ≤ i
+unfolding find findHere
+find-before x [] d i h e = absurd (omega arith)
+find-before x (y ∷ t) d zero h e = go (name? x y)
+  where
+    go : (q : Dec (x ≡ y)) → findHere q (find x t) ≤ zero
+    go (yes f) = omega arith
+    go (no f) = absurd (f (sym e))
+find-before x (y ∷ t) d (suc i) h e = go (name? x y) (find-before x t d i (omega arith) e)
+  where
+    go : (q : Dec (x ≡ y)) → find x t ≤ i → findHere q (find x t) ≤ suc i
+    go (yes f) k = omega arith
+    go (no f) k = omega arith
+
 -- a name that is not in the first part of a table is looked for in the second
 pub find-past : (x : Name) (t u : List Name) → find x t ≡ length t → find x (t ++ u) ≡ length t + find x u
 unfolding find findHere
@@ -75,6 +102,11 @@ find-past x (y ∷ t) u e = go (name? x y) (find-past x t u) e
 module _ (names w : List ℕ) where
   pub bindings-length : (n : ℕ) → length (bindingNames names (decode bindingLayout n w)) ≡ n
   bindings-length n = length-map (decode bindingLayout n w) (bindingName names) ∙ decode-length bindingLayout n w
+
+  pub name-at : (n i : ℕ) → i < n → getD (bindingNames names (decode bindingLayout n w)) i (bindingName names (bindingLayout .read [])) ≡ nameIn names w i
+  name-at n i h =
+      List·getD-map (bindingName names) (decode bindingLayout n w) i (bindingLayout .read [])
+      ∙ ap (bindingName names) (decode-at bindingLayout n i w (bindingLayout .read []) h)
 
   pub binding-next : (n i : ℕ) {b : Binding} → i < n → b ≡ recordAt bindingLayout w i
       → drop i (bindingNames names (decode bindingLayout n w)) ≡ nameAt names (b .kind) (b .offset) (b .size) ∷ drop (i + 1) (bindingNames names (decode bindingLayout n w))

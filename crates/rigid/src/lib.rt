@@ -11,6 +11,7 @@ ghost use Rattle.term_spec.specs.Words.{Lies, recordAt, decode};
 ghost use Rattle.term_spec.specs.Term.{Run as SpecRun, termLayout};
 ghost use Rattle.match_spec.specs.Element.{Element};
 ghost use Rattle.match_spec.specs.Pattern.{itemRuleK, patternLimit, closeKind, expressionVariableKind};
+ghost use Rattle.equality.specs.Memory.{Memory};
 ghost use Rattle.items.specs.Records.{asItem};
 ghost use Rattle.steps.specs.State.{leftOf, backOf, RunReady, InStore, Known, PatternReady, coded};
 ghost use Rattle.rigid.specs.Fit.{fitsAt, runFits, splitFits, FitIn, fitGoes, opensTo, skipsTo, fitsTerm, Apart, ApartAt, FirstFit};
@@ -51,8 +52,10 @@ fn fit_record(
     binds: &[u32],
     start: usize,
     len: usize,
+    known: &mut [u16],
 ) -> Fit
-    requires ready { ⌜ RunReady (now names) (now terms) used (record { start = start; len = len }) × Known used bound (now binds) ⌝ }
+    requires ready { ⌜ RunReady (now names) (now terms) used (record { start = start; len = len }) × Known used bound (now binds)
+        × Memory (now names) (now terms) used (now known) ⌝ }
     requires rule { ⌜ T (itemRuleK (t .kind) (now names) (asItem t)) ⌝ }
     ensures { λ r.
         let fits = fitsAt (now (names .entry)) (now (terms .entry)) used bound (now (binds .entry)) in
@@ -61,6 +64,7 @@ fn fit_record(
         ⌜
         FitIn len r
         × ((p : List (Element ℕ)) → fits (element ∷ p) zero ahead ≡ fitGoes r (λ k. fits p (opensTo (t .kind)) (backOf k ahead)))
+        × Memory (now (names .entry)) (now (terms .entry)) used (now (known .exit))
         ⌝ }
 {
     if t.kind == items::CLOSE {
@@ -77,7 +81,7 @@ fn fit_record(
         if len < e.len {
             return Fit::No;
         }
-        if !equality::equal_runs(names, terms, used, e.start, e.len, start, e.len) {
+        if !equality::equal_runs(names, terms, used, e.start, e.len, start, e.len, known) {
             return Fit::No;
         }
         return Fit::Takes(e.len);
@@ -125,12 +129,17 @@ pub fn rigid_run_matches(
     p: usize,
     s: State,
     binds: &[u32],
+    known: &mut [u16],
 ) -> bool
-    requires ready { ⌜ RunReady (now names) (now terms) used (leftOf s) × Known used (s .bound) (now binds) ⌝ }
+    requires ready { ⌜ RunReady (now names) (now terms) used (leftOf s) × Known used (s .bound) (now binds)
+        × Memory (now names) (now terms) used (now known) ⌝ }
     requires rules { ⌜ PatternReady (now names) (now pattern) (now numbers) ⌝ }
     ensures { λ r.
         let fits = runFits (now (names .entry)) (now (terms .entry)) used (now (pattern .entry)) (now (numbers .entry)) p in
-        ⌜ r ≡ fits (s .bound) (now (binds .entry)) (leftOf s) ⌝ }
+        ⌜
+        (r ≡ fits (s .bound) (now (binds .entry)) (leftOf s))
+        × Memory (now (names .entry)) (now (terms .entry)) used (now (known .exit))
+        ⌝ }
 {
     let n = pattern.len() / items::ITEM_WIDTH;
     let mut i = p;
@@ -145,7 +154,7 @@ pub fn rigid_run_matches(
             continue;
         }
         let x = words::word(numbers, i);
-        match fit_record(names, terms, used, t, x, s.bound, binds, start, len) {
+        match fit_record(names, terms, used, t, x, s.bound, binds, start, len, known) {
             Fit::No => {
                 return false;
             }
@@ -227,13 +236,18 @@ pub fn next_split(
     s: State,
     binds: &[u32],
     k: usize,
+    known: &mut [u16],
 ) -> usize
-    requires ready { ⌜ RunReady (now names) (now terms) used (leftOf s) × Known used (s .bound) (now binds) ⌝ }
+    requires ready { ⌜ RunReady (now names) (now terms) used (leftOf s) × Known used (s .bound) (now binds)
+        × Memory (now names) (now terms) used (now known) ⌝ }
     requires rules { ⌜ PatternReady (now names) (now pattern) (now numbers) ⌝ }
     requires split { ⌜ k ≤ s .len + 1 ⌝ }
     ensures { λ r.
         let fits = splitFits (now (names .entry)) (now (terms .entry)) used (now (pattern .entry)) (now (numbers .entry)) p in
-        ⌜ FirstFit (fits (s .bound) (now (binds .entry)) (leftOf s)) k (s .len) r ⌝ }
+        ⌜
+        FirstFit (fits (s .bound) (now (binds .entry)) (leftOf s)) k (s .len) r
+        × Memory (now (names .entry)) (now (terms .entry)) used (now (known .exit))
+        ⌝ }
 {
     let mut j = k;
     while j <= s.len {
@@ -247,6 +261,7 @@ pub fn next_split(
             p,
             steps::pass(s, j),
             binds,
+            known,
         ) {
             return j;
         }

@@ -1,6 +1,8 @@
 pub mod Pieces
-pub mod LinkLaws
 pub mod PiecesLaws
+pub mod Fronts
 pub mod FrontLaws
-pub mod CopyLaws
+pub mod PartLaws
+pub mod Copies
 pub mod CopiedLaws
+pub mod AtLaws

@@ -1,61 +1,32 @@
--- What is to be read of a rope next: a piece of a node's terms, then the fields that wait on a stack of words, two words to a field.
+-- A piece of the code as what is to be read of a rope next, and what the functions on it ask and answer.
 use mathlib.Core.Path.{_≡_}
-use mathlib.Core.List.{List, [], _∷_, _++_}
-use lib.ListN.{length, getD, take, drop}
-use Prim.Native.Nat.{ℕ, suc, zero, _+_, _*_, _-_, _≤_, _<_, min}
-use native.Mathlib.Decide.{decLt}
-use Rattle.term_spec.specs.ListLaws.{All}
+use mathlib.Core.List.{List, _++_}
+use lib.ListN.{length}
+use Prim.Native.Nat.{ℕ, _+_, _-_, _<_, min}
 use Rattle.term_spec.specs.Words.{Lies}
 use Rattle.term_spec.specs.Term.{Term, Run, termLayout}
 use Rattle.term_spec.specs.Value.{Value}
-use Rattle.view_spec.specs.Build.{ifDec}
-use Rattle.view_spec.specs.Node.{Node, Field, consKind, nodeAt, meaning, holds, GoodNodes}
+use Rattle.view_spec.specs.Node.{Node, consKind, nodeAt, GoodNodes}
 use Rattle.nodes.specs.NodeStore.{nodesIn, NodeStore, AnyStore, Reaches}
+use Rattle.places.specs.Rest.{Rest, rest, waiting, remain, Ready}
 use Rattle.rope.specs.declared.Piece.{Piece}
 
--- `left` terms of a node after its first `skip`, then the fields `later`.
-pub record Rest : Type 0 where
-  pub node : ℕ
-  pub skip : ℕ
-  pub left : ℕ
-  pub later : List Field
+-- The steps that reading may take for each term and for each call.
+abbrev pub steps : ℕ
+steps = 8
+
+abbrev pub stepsAlone : ℕ
+stepsAlone = 4096
 
 -- The most fields on a stack.
 abbrev pub mostFields : ℕ
 mostFields = 32
 
--- The fields on a stack of so many, the last one first.
-unfoldable pub waiting : List ℕ → ℕ → List Field
-waiting w zero = []
-waiting w (suc d) = record { node = getD w (d * 2) 0; len = getD w (d * 2 + 1) 0 } ∷ waiting w d
-
 -- A piece of the code with its stack.
 abbrev pub restOf : Piece → List ℕ → Rest
-restOf p w = record { node = p .node; skip = p .skip; left = p .left; later = waiting w (p .depth) }
+restOf p w = rest (p .node) (p .skip) (p .left) (waiting w (p .depth))
 
--- The terms of fields, one after another.
-unfoldable pub gives : {X : Type 0} → List X → List Node → List Field → List X
-gives xs ns [] = []
-gives xs ns (f ∷ fs) = holds xs ns f ++ gives xs ns fs
-
--- The terms that are to be read next.
-abbrev pub remain : {X : Type 0} → List X → List Node → Rest → List X
-remain xs ns r = take (r .left) (drop (r .skip) (meaning xs ns (r .node))) ++ gives xs ns (r .later)
-
--- A field that waits is one of the store's, and not empty.
-pub record Waits (ns : List Node) (f : Field) : Type 0 where
-  pub low : f .node < length ns
-  pub some : 1 ≤ f .len
-  pub reached : f .len ≤ (nodeAt ns (f .node)) .reach
-
--- There is a term to read, and the piece and the fields lie in the store.
-pub record Ready (ns : List Node) (r : Rest) : Type 0 where
-  pub low : r .node < length ns
-  pub some : 1 ≤ r .left
-  pub reached : r .skip + r .left ≤ (nodeAt ns (r .node)) .reach
-  pub later : All (Waits ns) (r .later)
-
--- The same in some store of the words: what a function asks that does not read how many nodes are used.
+-- There is a term to read in some store of the words: what a function asks that does not read how many nodes are used.
 pub record ReadyIn (w : List ℕ) (r : Rest) : Type 0 where
   pub used : ℕ
   pub store : AnyStore w used
@@ -103,16 +74,6 @@ ToRunIn w s t = (used : ℕ) → AnyStore w used → Ready (nodesIn w used) s �
 -- The run of at most m terms that begins there.
 unfoldable pub front : List Node → ℕ → ℕ → ℕ → Run
 front ns i k m = record { start = (nodeAt ns i) .a + k; len = min m ((nodeAt ns i) .b - k) }
-
--- The first of the fields becomes the piece, or, where there is none, what is given.
-unfoldable pub popped : List Field → Rest → Rest
-popped [] again = again
-popped (f ∷ fs) again = record { node = f .node; skip = 0; left = f .len; later = fs }
-
--- What is to be read after k terms of the piece.
-unfoldable pub passed : Rest → ℕ → Rest → Rest
-passed r k again =
-    ifDec (decLt k (r .left)) (record { node = r .node; skip = r .skip + k; left = r .left - k; later = r .later }) (popped (r .later) again)
 
 -- The terms that a store of nodes is over lie in a slice.
 pub record Below (terms nodes : List ℕ) (used : ℕ) : Type 0 where

@@ -13,6 +13,7 @@ ghost use Rattle.term_spec.specs.Term.{limit, runLayout, noRun};
 ghost use Rattle.match_spec.specs.Pattern.{itemRuleK, nestingLimit, nameLimit, openKind, symbolVariableKind, termVariableKind};
 ghost use Rattle.match_spec.specs.Walk.{ends};
 ghost use Rattle.value.specs.Equal.{TermStore};
+ghost use Rattle.equality.specs.Memory.{Memory};
 ghost use Rattle.items.specs.Records.{asItem};
 ghost use Rattle.words.specs.Records.{asRun};
 ghost use Rattle.match_spec.specs.Element.{opening, closing, many};
@@ -190,8 +191,10 @@ fn turn_single(
     x: usize,
     s: State,
     binds: &mut [u32],
+    known: &mut [u16],
 ) -> Turned
-    requires ready { ⌜ RunReady (now names) (now terms) used (leftOf s) × Known used (s .bound) (now binds) ⌝ }
+    requires ready { ⌜ RunReady (now names) (now terms) used (leftOf s) × Known used (s .bound) (now binds)
+        × Memory (now names) (now terms) used (now known) ⌝ }
     requires variable { ⌜ (symbolVariableKind ≤ t .kind) × (t .kind ≤ termVariableKind) × (x ≤ s .bound) × (x < nameLimit) ⌝ }
     ensures { λ r.
         let element = coded (now (names .entry)) (asItem t) x in
@@ -201,6 +204,7 @@ fn turn_single(
         ⌜
         ((last : Bool) (lv : List ℕ) → turnOf r lv after ≡ due last (placeOf s lv before))
         × (entriesIn (s .bound) after ≡ entriesIn (s .bound) before)
+        × Memory (now (names .entry)) (now (terms .entry)) used (now (known .exit))
         ⌝ }
 {
     if s.len == 0 {
@@ -214,7 +218,7 @@ fn turn_single(
         return next(give(s, 1, binds));
     }
     let e = entry(binds, x);
-    if !equality::equal_runs(names, terms, used, e.start, e.len, s.start, 1) {
+    if !equality::equal_runs(names, terms, used, e.start, e.len, s.start, 1, known) {
         return stop(s);
     }
     next(pass(s, 1))
@@ -229,8 +233,10 @@ fn turn_expression(
     last: bool,
     s: State,
     binds: &mut [u32],
+    known: &mut [u16],
 ) -> Turned
-    requires ready { ⌜ RunReady (now names) (now terms) used (leftOf s) × Known used (s .bound) (now binds) ⌝ }
+    requires ready { ⌜ RunReady (now names) (now terms) used (leftOf s) × Known used (s .bound) (now binds)
+        × Memory (now names) (now terms) used (now known) ⌝ }
     requires variable { ⌜ (x ≤ s .bound) × (x < nameLimit) ⌝ }
     ensures { λ r.
         let due = turnAt (now (names .entry)) (now (terms .entry)) used (many x) last in
@@ -239,6 +245,7 @@ fn turn_expression(
         ⌜
         ((lv : List ℕ) → turnOf r lv after ≡ due (placeOf s lv before))
         × (entriesIn (s .bound) after ≡ entriesIn (s .bound) before)
+        × Memory (now (names .entry)) (now (terms .entry)) used (now (known .exit))
         ⌝ }
 {
     if s.bound <= x {
@@ -254,7 +261,7 @@ fn turn_expression(
     if s.len < e.len {
         return stop(s);
     }
-    if !equality::equal_runs(names, terms, used, e.start, e.len, s.start, e.len) {
+    if !equality::equal_runs(names, terms, used, e.start, e.len, s.start, e.len, known) {
         return stop(s);
     }
     next(pass(s, e.len))
@@ -291,8 +298,10 @@ pub fn turn(
     s: State,
     levels: &mut [u32],
     binds: &mut [u32],
+    known: &mut [u16],
 ) -> Turned
-    requires store { ⌜ TermStore (now names) (now terms) used × (used ≤ limit) × Stands used (placeOf s (now levels) (now binds)) ⌝ }
+    requires store { ⌜ TermStore (now names) (now terms) used × (used ≤ limit) × Stands used (placeOf s (now levels) (now binds))
+        × Memory (now names) (now terms) used (now known) ⌝ }
     requires rule { ⌜ T (itemRuleK (t .kind) (now names) (asItem t)) × Fine (t .kind) x (s .depth) (s .bound) ⌝ }
     ensures { λ r.
         let element = coded (now (names .entry)) (asItem t) x in
@@ -301,6 +310,7 @@ pub fn turn(
         (turnOf r (now (levels .exit)) (now (binds .exit)) ≡ due (placeOf s (now (levels .entry)) (now (binds .entry))))
         × LevelsKept (s .depth) (r .what) (now (levels .entry)) (now (levels .exit))
         × (entriesIn (s .bound) (now (binds .exit)) ≡ entriesIn (s .bound) (now (binds .entry)))
+        × Memory (now (names .entry)) (now (terms .entry)) used (now (known .exit))
         ⌝ }
 {
     if t.kind < items::OPEN {
@@ -313,10 +323,10 @@ pub fn turn(
         return turn_close(s, levels);
     }
     if t.kind < items::E_VARIABLE {
-        return turn_single(names, terms, used, t, x, s, binds);
+        return turn_single(names, terms, used, t, x, s, binds, known);
     }
     if t.kind == items::E_VARIABLE {
-        return turn_expression(names, terms, used, x, last, s, binds);
+        return turn_expression(names, terms, used, x, last, s, binds, known);
     }
     Turned {
         what: What::Call,

@@ -31,7 +31,7 @@ pub const MAX_VARIABLES: usize = 64;
 pub const MAX_RUNS: usize = 64;
 
 /// The bytes of stack that a call of the library needs at most. A thread that has less can die of it.
-pub const STACK_BYTES: usize = 393_216;
+pub const STACK_BYTES: usize = 524_288;
 
 /// The first word of a term. The first three are kinds of pattern records too.
 pub(crate) mod term {

@@ -1,4 +1,4 @@
--- `compare_runs`: a store that `check_terms` lets pass is one that `equal_runs` asks for; each exit is one law of the answer.
+-- `compare_runs`: a store that `check_terms` lets pass is one that comparing asks for; each exit is one law of the answer.
 use mathlib.Core.Path.{sym, _∙_}
 use borrow.Author.Needs.{needs}
 use Rattle.value.specs.EqualLaws.{store-of, store-few}
@@ -27,22 +27,33 @@ returns-5 : tie.Need-returns-5
 unfolding answerOf
 returns-5 c = compared-second _ _ _ _ _ _ _ (c .before .before .before .before .before .check-terms .ensures) (search needs) (search needs) (search needs)
 
-equal-runs-requires : tie.Need-equal-runs-requires
-equal-runs-requires c κs =
+equal-alone-requires : tie.Need-equal-alone-requires
+equal-alone-requires c κs =
     let e = c .before .before .before .before .before .check-terms .ensures in
-    ((store-of _ _ _ e (search needs), store-few _ _ _ e (search needs)), search needs)
+    record { store = store-of _ _ _ e (search needs); few = store-few _ _ _ e (search needs); first = search needs; second = search needs }
 
 returns-6 : tie.Need-returns-6
 unfolding answerOf found
 returns-6 c =
     let at-check = c .before .before .before .before .before .before .before in
-    compared-both _ _ _ _ _ _ _ (at-check .check-terms .ensures) (search needs) (search needs) (search needs) (sym (c .if6 .taken) ∙ c .before .equal-runs .ensures)
+    compared-both _ _ _ _ _ _ _ (at-check .check-terms .ensures) (search needs) (search needs) (search needs) (sym (c .if6 .taken) ∙ c .before .equal-alone .ensures)
 
 returns-7 : tie.Need-returns-7
 unfolding answerOf found
 returns-7 c =
     let at-check = c .before .before .before .before .before .before .before in
-    compared-both _ _ _ _ _ _ _ (at-check .check-terms .ensures) (search needs) (search needs) (search needs) (sym (c .if6 .left) ∙ c .before .equal-runs .ensures)
+    compared-both _ _ _ _ _ _ _ (at-check .check-terms .ensures) (search needs) (search needs) (search needs) (sym (c .if6 .left) ∙ c .before .equal-alone .ensures)
 
 pub compare-runs-spec : {M : Type 1} → statement M
-compare-runs-spec = tie.close (tie.spec (λ c κs. search needs) returns returns-2 returns-3 returns-4 returns-5 equal-runs-requires returns-6 returns-7)
+compare-runs-spec =
+    tie.close
+    (tie.spec
+    (λ c κs. search needs)
+    returns
+    returns-2
+    returns-3
+    returns-4
+    returns-5
+    equal-alone-requires
+    returns-6
+    returns-7)

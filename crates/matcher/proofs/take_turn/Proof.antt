@@ -11,32 +11,34 @@ use Rattle.matcher.proofs.take_turn.Tie as tie
 
 -- where the function begins
 abbrev begin : tie.After-get-item → tie.Start
-begin c = c .before .before .before .before .before .before .before
+begin c = c .before .before .before .before .before .before .before .before
 
 -- the two words of the level lie within its words
 within : (c : tie.After-ends-at) → let s = begin (c .before .before) .args in 2 * s .s .depth + 2 ≤ length (s .levels .now)
-within c = depth-room (begin (c .before .before) .pre .ready)
+within c = depth-room (begin (c .before .before) .pre .0 .ready)
 
 get-item-requires : tie.Need-get-item-requires
 unfolding count
-get-item-requires c κs = let at-start = c .before .before .before .before .before .before in omega (arith, at-start .pre .there)
+get-item-requires c κs = let at-start = c .before .before .before .before .before .before .before in omega (arith, at-start .pre .0 .there)
 
 word-requires : tie.Need-word-requires
-word-requires c κs = number-there (begin c .pre .ready) (begin c .pre .there)
+word-requires c κs = number-there (begin c .pre .0 .ready) (begin c .pre .0 .there)
 
 add-ends-at : tie.Need-add-ends-at
 unfolding count
-add-ends-at c = let at-start = begin (c .before) in omega (arith, at-start .pre .there, at-start .pre .ready .pattern .short)
+add-ends-at c = let at-start = begin (c .before) in omega (arith, at-start .pre .0 .there, at-start .pre .0 .ready .pattern .short)
 
 ends-apart-requires : tie.Need-ends-apart-requires
-ends-apart-requires c κs = let y = begin (c .before .before .before) .pre .ready in (ready-stands y .known .bound, y .entry-room)
+ends-apart-requires c κs = let y = begin (c .before .before .before) .pre .0 .ready in (ready-stands y .known .bound, y .entry-room)
 
 returns : tie.Need-returns
 returns c =
     let at-end = c .before .before .before in
     let at-item = at-end .before .before in
-    let start = begin at-item .pre in
-    apart-taken _ _ _ (start .there) (at-item .get-item .ensures) (at-end .before .word .ensures) (start .ready) (c .before .ends-apart .ensures (c .if1 .taken)) (at-end .ends-at .ensures _ _)
+    let start = begin at-item .pre .0 in
+    let number = at-end .before .word .ensures in
+    let apart = c .before .ends-apart .ensures (c .if1 .taken) in
+    (apart-taken _ _ _ (start .there) (at-item .get-item .ensures) number (start .ready) apart (at-end .ends-at .ensures _ _), begin at-item .pre .1)
 
 mul-start : tie.Need-mul-start
 mul-start c = omega (arith, within (c .before .before .before))
@@ -61,21 +63,22 @@ slice-read-len c = omega (arith, within (c .before .before .before .before .befo
 
 turn-requires : tie.Need-turn-requires
 turn-requires c κs =
-    let at-word = c .before .before .before .before .before .before .before .before in
+    let at-word = c .before .before .before .before .before .before .before .before .before in
     let at-item = at-word .before in
-    let start = begin at-item .pre in
+    let start = begin at-item .pre .0 in
     let y = start .ready in
     let item = at-item .get-item .ensures in
     let number = at-word .word .ensures in
-    ((y .store, y .few, ready-stands y), (ready-item _ _ _ (start .there) item number y, ready-fine _ _ _ (start .there) item number y))
+    ((y .store, y .few, ready-stands y, begin at-item .pre .1), (ready-item _ _ _ (start .there) item number y, ready-fine _ _ _ (start .there) item number y))
 
 returns-2 : tie.Need-returns-2
 returns-2 c =
-    let at-turn = c .before .before .before .before .before in
-    let at-end = at-turn .before .before .before .before .before .before .before .before in
+    let at-turn = c .before .before .before .before .before .before .before in
+    let at-end = at-turn .before .before .before .before .before .before .before .before .before in
     let at-item = at-end .before .before in
     let turned = at-turn .turn .ensures in
-    turn-taken _ _ _ (begin at-item .pre .there) (at-item .get-item .ensures) (at-end .before .word .ensures) (at-end .ends-at .ensures _ _) _ _ (turned .0) (turned .1) (turned .2) refl refl
+    let there = begin at-item .pre .0 .there in
+    (turn-taken _ _ _ there (at-item .get-item .ensures) (at-end .before .word .ensures) (at-end .ends-at .ensures _ _) _ _ (turned .0) (turned .1) (turned .2) refl refl, turned .3)
 
 pub take-turn-spec : {M : Type 1} → statement M
 take-turn-spec =
@@ -96,6 +99,7 @@ take-turn-spec =
     mul-len-2
     slice-read-len
     turn-requires
+    (λ c. search needs)
     (λ c. search needs)
     (λ c. search needs)
     returns-2)

@@ -1,136 +1,39 @@
--- `copy_after`: after each turn the first `done` terms are after the used terms, and those that are to be read next come after them.
+-- `copy_after`: what is read of the rest is written after the terms that are there already, and the used terms are as they were.
+use borrow.Author.Needs.{needs}
+use native.Mathlib.Nat.{add-zero}
 use native.Mathlib.Omega.{arith}
-use mathlib.Core.Path.{refl}
-use Prim.Native.Nat.{ℕ, _+_, _-_, _<_, _≤_}
-use Rattle.term_spec.specs.Words.{Lies}
-use Rattle.term_spec.specs.Term.{termLayout}
-use Rattle.term_spec.specs.WordsLaws.{decode-length}
-use Rattle.words.specs.Records.{asRun}
-use Rattle.nodes.specs.NodeStore.{nodesIn}
-use Rattle.rope.specs.Pieces.{mostFields, restOf, ToRun}
-use Rattle.rope.specs.CopiedLaws.{Task, Found, Done, task-after, done-none, done-length, done-below, done-run, done-found, done-next, done-all}
+use mathlib.Core.Path.{_≡_, refl}
+use Rattle.rope.specs.CopiedLaws.{task-after}
+use Rattle.rope.specs.AtLaws.{some-kept, copied-rest}
 use Rattle.rope.proofs.copy_after.Statement.{statement}
 use Rattle.rope.proofs.copy_after.Tie as tie
 
-abbrev Inv-loop : tie.InvT-loop
-Inv-loop terms₀ terms-used nodes node len stack₀ at₀ done₀ terms stack at done =
-    (at .depth ≤ mostFields)
-    × ((used : ℕ) → Task terms₀ terms-used nodes used node len terms-used terms₀
-    → Done terms₀ terms-used nodes used node len terms-used terms₀ (restOf at stack) terms done)
-
-abbrev μ-loop : tie.MeasureT-loop
-μ-loop terms₀ terms-used nodes node len stack₀ at₀ done₀ terms stack at done = len - done
-
--- what is to be done, in a store of the words
-abbrev Asked : tie.Start Inv-loop μ-loop → ℕ → Type 0
-Asked start used =
-    Task (start .args .terms .now) (start .args .terms-used) (start .args .nodes .now) used (start .args .node) (start .args .len) (start .args .terms-used) (start .args .terms .now)
-
--- in the store that is there
-task : (start : tie.Start Inv-loop μ-loop) → Asked start (start .pre .0 .used)
-task start = let asked = start .pre in task-after (asked .1 .0) (asked .1 .1) (asked .0 .store) (asked .0 .reaches)
-
--- the piece is taken down to a run
-run : (c : tie.After-to-run Inv-loop μ-loop) {used : ℕ}
-    → let at-loop = c .before .before .before in
-    let start = at-loop .before .before .before in
-    Asked start used
-    → ToRun (nodesIn (start .args .nodes .now) used) (restOf (at-loop .loop .at) (at-loop .loop .stack)) (restOf (c .to-run .result) (c .to-run .last .1 .0))
-run c asked =
-    let in-loop = c .before .before in
-    c .to-run .ensures .1 _ (asked .store) (in-loop .before .loop .inv .1 _ asked .along .ready (in-loop .loop-test .taken))
-
--- the node that it begins in is there
-below : (c : tie.After-to-run Inv-loop μ-loop) {used : ℕ} → Asked (c .before .before .before .before .before .before) used → c .to-run .result .node < used
-below c asked = rw decode-length at (run c asked .goes .ready .low)
-
--- the run of a turn
-found : (c : tie.After-front Inv-loop μ-loop)
-    → let at-loop = c .before .before .before .before in
-    let x = at-loop .before .before .before .args in
-    Found (x .terms-used) (x .len) (at-loop .loop .done) (restOf (c .before .to-run .result) (c .before .to-run .last .1 .0)) (asRun (c .front .result))
-found c =
-    let at-run = c .before in
-    let in-loop = at-run .before .before in
-    let asked = task (in-loop .before .before .before .before) in
-    let so-far = done-run (in-loop .before .loop .inv .1 _ asked) (run at-run asked .goes) in
-    done-found so-far (in-loop .loop-test .taken) (run at-run asked .begins) (c .front .ensures _ (below at-run asked))
-
--- its terms lie in the slice
-there : (c : tie.After-front Inv-loop μ-loop)
-    → let x = c .before .before .before .before .before .before .before .args in
-    Lies termLayout (x .terms .now) (x .terms-used + x .len)
-there c = task (c .before .before .before .before .before .before .before) .room
-
-loop-holds : tie.Need-loop-holds Inv-loop μ-loop
-loop-holds c = (omega arith, λ used asked. done-none asked _)
-
-to-run-requires : tie.Need-to-run-requires Inv-loop μ-loop
-to-run-requires c κs =
-    let in-loop = c .before in
-    let inv = in-loop .before .loop .inv in
-    let asked = task (in-loop .before .before .before .before) in
-    (record { used = _; store = asked .store; ready = inv .1 _ asked .along .ready (in-loop .loop-test .taken) }, inv .0)
-
-front-requires : tie.Need-front-requires Inv-loop μ-loop
-front-requires c κs =
-    let asked = task (c .before .before .before .before .before .before) in
-    record { used = _; store = asked .store; low = below c asked; begins = run c asked .begins }
-
-copy-run-up-requires : tie.Need-copy-run-up-requires Inv-loop μ-loop
-copy-run-up-requires c κs =
-    let at-front = c .before .before .before in
-    let next = found at-front in
-    let at-loop = at-front .before .before .before .before in
-    let asked = task (at-loop .before .before .before) in
-    let l = done-length (at-loop .loop .inv .1 _ asked) in
-    (omega (arith, asked .there), omega (arith, asked .room))
-
-past-requires : tie.Need-past-requires Inv-loop μ-loop
-past-requires c κs =
-    let at-front = c .before .before .before .before .before .before .before .before in
-    let next = found at-front in
-    (next .within, next .near, at-front .before .to-run .ensures .0, omega (arith, next))
-
-loop-again : tie.Need-loop-again Inv-loop μ-loop
-loop-again c =
-    let copied = c .before .before .before .before .before in
-    let at-front = copied .before .before .before .before in
-    let at-run = at-front .before in
-    let in-loop = at-run .before .before in (
-      c .past .ensures .0,
-      λ used asked.
-          let so-far = done-run (in-loop .before .loop .inv .1 used asked) (run at-run asked .goes) in
-          done-next so-far (in-loop .loop-test .taken) (run at-run asked .begins) (at-front .front .ensures _ (below at-run asked)) _ (done-below so-far (asked .there)) _ refl
-          (c .past .ensures .1) (copied .copy-run-up .ensures),
-    )
-
-same-length : tie.Need-same-length Inv-loop μ-loop
-same-length c = let at-loop = c .before in done-length (at-loop .loop .inv .1 _ (task (at-loop .before .before .before)))
-
-returns : tie.Need-returns Inv-loop μ-loop
+returns : tie.Need-returns
 returns c used store reaches =
-    let at-loop = c .before in
-    let asked = at-loop .before .before .before .pre .1 in
-    done-all (at-loop .loop .inv .1 used (task-after (asked .0) (asked .1) store reaches)) (omega arith)
+    let whole = c .before .before in
+    let some = whole .before .before .before .before .before in
+    let start = some .before .before .before .before in
+    let asked = start .pre .1 in
+    let first = rw add-zero at (some .copy-some-after .ensures .1 used store reaches) in
+    let task = task-after (asked .0) (asked .1) store reaches in
+    let most = some .copy-some-after .ensures .0 in
+    let kept = some-kept task _ most (omega arith) first in
+    copied-rest task _ most _ refl first (rw kept at (whole .copy-rest-after .ensures used store reaches))
+
+returns-2 : tie.Need-returns-2
+returns-2 c used store reaches =
+    let some = c .before .before .before in
+    let start = some .before .before .before .before in
+    let e : some .copy-some-after .result ≡ start .args .len = omega (arith, some .copy-some-after .ensures .0, c .if1 .left) in
+    rw (add-zero, e) at (some .copy-some-after .ensures .1 used store reaches)
 
 pub copy-after-spec : {M : Type 1} → statement M
 copy-after-spec =
     tie.close
     (tie.spec
-    Inv-loop
-    μ-loop
-    loop-holds
-    to-run-requires
-    front-requires
-    (λ c. omega (arith, found (c .before .before), there (c .before .before)))
-    (λ c. omega (arith, found (c .before .before), there (c .before .before)))
-    (λ c. omega (arith, found (c .before .before), there (c .before .before)))
-    (λ c. omega (arith, found (c .before .before .before), there (c .before .before .before)))
-    copy-run-up-requires
-    (λ c. omega (arith, found (c .before .before .before .before .before .before .before)))
-    past-requires
-    (λ c. omega (arith, found (c .before .before .before .before .before .before .before .before .before)))
-    loop-again
-    same-length
-    returns)
+    (λ c κs. search needs)
+    (λ c κs. search needs)
+    (λ c. search needs)
+    returns
+    (λ c. search needs)
+    returns-2)

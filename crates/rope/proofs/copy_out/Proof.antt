@@ -1,135 +1,37 @@
--- `copy_out`: after each turn the first `done` terms are in the buffer, and those that are to be read next come after them.
+-- `copy_out`: what is read of the rest is written after the terms that are there already.
+use borrow.Author.Needs.{needs}
 use native.Mathlib.Omega.{arith}
-use mathlib.Core.Path.{refl}
-use Prim.Native.Nat.{ℕ, _-_, _<_, _≤_}
-use Rattle.term_spec.specs.Words.{Lies, count, records}
-use Rattle.term_spec.specs.Term.{termLayout}
-use Rattle.term_spec.specs.WordsLaws.{decode-length}
-use Rattle.words.specs.Records.{asRun}
-use Rattle.nodes.specs.NodeStore.{nodesIn}
-use Rattle.rope.specs.Pieces.{mostFields, restOf, ToRun}
-use Rattle.rope.specs.CopiedLaws.{Task, Found, Done, task-out, done-none, done-length, done-run, done-found, done-next, done-all}
+use mathlib.Core.Path.{_≡_}
+use Rattle.term_spec.specs.Words.{records}
+use Rattle.rope.specs.CopiedLaws.{task-out}
+use Rattle.rope.specs.AtLaws.{copied-rest}
 use Rattle.rope.proofs.copy_out.Statement.{statement}
 use Rattle.rope.proofs.copy_out.Tie as tie
 
-abbrev Inv-loop : tie.InvT-loop
-Inv-loop terms nodes node len work₀ stack₀ at₀ done₀ work stack at done =
-    (at .depth ≤ mostFields)
-    × ((used : ℕ) → Task terms (count termLayout terms) nodes used node len 0 work₀
-    → Done terms (count termLayout terms) nodes used node len 0 work₀ (restOf at stack) work done)
-
-abbrev μ-loop : tie.MeasureT-loop
-μ-loop terms nodes node len work₀ stack₀ at₀ done₀ work stack at done = len - done
-
--- what is to be done, in a store of the words
-abbrev Asked : tie.Start Inv-loop μ-loop → ℕ → Type 0
-Asked start used =
-    Task (start .args .terms .now) (count termLayout (start .args .terms .now)) (start .args .nodes .now) used (start .args .node) (start .args .len) 0 (start .args .work .now)
-
--- in the store that is there
-task : (start : tie.Start Inv-loop μ-loop) → Asked start (start .pre .0 .used)
-task start = let asked = start .pre in task-out (asked .0 .below) (asked .0 .reaches) (asked .1)
-
--- the piece is taken down to a run
-run : (c : tie.After-to-run Inv-loop μ-loop) {used : ℕ}
-    → let at-loop = c .before .before .before in
-    let start = at-loop .before .before .before .before in
-    Asked start used
-    → ToRun (nodesIn (start .args .nodes .now) used) (restOf (at-loop .loop .at) (at-loop .loop .stack)) (restOf (c .to-run .result) (c .to-run .last .1 .0))
-run c asked =
-    let in-loop = c .before .before in
-    c .to-run .ensures .1 _ (asked .store) (in-loop .before .loop .inv .1 _ asked .along .ready (in-loop .loop-test .taken))
-
--- the node that it begins in is there
-below : (c : tie.After-to-run Inv-loop μ-loop) {used : ℕ} → Asked (c .before .before .before .before .before .before .before) used → c .to-run .result .node < used
-below c asked = rw decode-length at (run c asked .goes .ready .low)
-
--- the run of a turn
-found : (c : tie.After-front Inv-loop μ-loop)
-    → let at-loop = c .before .before .before .before in
-    let x = at-loop .before .before .before .before .args in
-    Found (count termLayout (x .terms .now)) (x .len) (at-loop .loop .done) (restOf (c .before .to-run .result) (c .before .to-run .last .1 .0)) (asRun (c .front .result))
-found c =
-    let at-run = c .before in
-    let in-loop = at-run .before .before in
-    let asked = task (in-loop .before .before .before .before .before) in
-    let so-far = done-run (in-loop .before .loop .inv .1 _ asked) (run at-run asked .goes) in
-    done-found so-far (in-loop .loop-test .taken) (run at-run asked .begins) (c .front .ensures _ (below at-run asked))
-
--- its terms lie in the slice
-there : (c : tie.After-front Inv-loop μ-loop)
-    → let terms = c .before .before .before .before .before .before .before .before .args .terms .now in
-    Lies termLayout terms (count termLayout terms)
-there c = task (c .before .before .before .before .before .before .before .before) .there
-
-loop-holds : tie.Need-loop-holds Inv-loop μ-loop
-loop-holds c = (omega arith, λ used asked. done-none asked _)
-
-to-run-requires : tie.Need-to-run-requires Inv-loop μ-loop
-to-run-requires c κs =
-    let in-loop = c .before in
-    let inv = in-loop .before .loop .inv in
-    let asked = task (in-loop .before .before .before .before .before) in
-    (record { used = _; store = asked .store; ready = inv .1 _ asked .along .ready (in-loop .loop-test .taken) }, inv .0)
-
-front-requires : tie.Need-front-requires Inv-loop μ-loop
-front-requires c κs =
-    let asked = task (c .before .before .before .before .before .before .before) in
-    record { used = _; store = asked .store; low = below c asked; begins = run c asked .begins }
-
-copy-run-requires : tie.Need-copy-run-requires Inv-loop μ-loop
-copy-run-requires c κs =
-    let at-front = c .before .before .before in
-    let next = found at-front in
-    let at-loop = at-front .before .before .before .before in
-    let asked = task (at-loop .before .before .before .before) in
-    let l = done-length (at-loop .loop .inv .1 _ asked) in
-    (omega (arith, asked .there), omega (arith, asked .room))
-
-past-requires : tie.Need-past-requires Inv-loop μ-loop
-past-requires c κs =
-    let at-front = c .before .before .before .before .before .before .before .before in
-    let next = found at-front in
-    (next .within, next .near, at-front .before .to-run .ensures .0, omega (arith, next))
-
-loop-again : tie.Need-loop-again Inv-loop μ-loop
-loop-again c =
-    let copied = c .before .before .before .before .before in
-    let at-front = copied .before .before .before .before in
-    let at-run = at-front .before in
-    let in-loop = at-run .before .before in (
-      c .past .ensures .0,
-      λ used asked.
-          let so-far = done-run (in-loop .before .loop .inv .1 used asked) (run at-run asked .goes) in
-          done-next so-far (in-loop .loop-test .taken) (run at-run asked .begins) (at-front .front .ensures _ (below at-run asked)) _ refl _ (omega arith) (c .past .ensures .1)
-          (copied .copy-run .ensures),
-    )
-
-same-length : tie.Need-same-length Inv-loop μ-loop
-same-length c = let at-loop = c .before in done-length (at-loop .loop .inv .1 _ (task (at-loop .before .before .before .before)))
-
-returns : tie.Need-returns Inv-loop μ-loop
+returns : tie.Need-returns
 unfolding records
 returns c used below reaches =
-    let at-loop = c .before in
-    done-all (at-loop .loop .inv .1 used (task-out below reaches (at-loop .before .before .before .before .pre .1))) (omega arith)
+    let whole = c .before .before in
+    let some = whole .before .before .before .before .before in
+    let start = some .before .before .before .before .before in
+    copied-rest (task-out below reaches (start .pre .1)) _ (some .copy-some-out .ensures .0) _ (omega arith) (some .copy-some-out .ensures .1 used below reaches)
+    (whole .copy-rest-out .ensures used below reaches)
+
+returns-2 : tie.Need-returns-2
+unfolding records
+returns-2 c used below reaches =
+    let some = c .before .before .before in
+    let start = some .before .before .before .before .before in
+    let e : some .copy-some-out .result ≡ start .args .len = omega (arith, some .copy-some-out .ensures .0, c .if1 .left) in
+    rw e at (some .copy-some-out .ensures .1 used below reaches)
 
 pub copy-out-spec : {M : Type 1} → statement M
 copy-out-spec =
     tie.close
     (tie.spec
-    Inv-loop
-    μ-loop
-    loop-holds
-    to-run-requires
-    front-requires
-    (λ c. omega (arith, found (c .before .before), there (c .before .before)))
-    (λ c. omega (arith, found (c .before .before), there (c .before .before)))
-    (λ c. omega (arith, found (c .before .before .before), there (c .before .before .before)))
-    copy-run-requires
-    (λ c. omega (arith, found (c .before .before .before .before .before .before .before)))
-    past-requires
-    (λ c. omega (arith, found (c .before .before .before .before .before .before .before .before .before)))
-    loop-again
-    same-length
-    returns)
+    (λ c κs. search needs)
+    (λ c κs. search needs)
+    (λ c. search needs)
+    returns
+    (λ c. search needs)
+    returns-2)

@@ -1,7 +1,7 @@
 -- `past`: by whether the piece is used up, and whether a field waits.
 use borrow.Author.Needs.{needs}
 use native.Mathlib.Omega.{arith}
-use Rattle.rope.specs.PiecesLaws.{passed-within, passed-last, passed-next}
+use Rattle.places.specs.RestLaws.{passed-within, passed-last, passed-next}
 use Rattle.rope.proofs.past.Statement.{statement}
 use Rattle.rope.proofs.past.Tie as tie
 
@@ -11,8 +11,7 @@ returns c = let more = c .before .before in (more .before .before .pre .2, passe
 returns-2 : tie.Need-returns-2
 returns-2 c =
     let used-up = c .before in
-    let start = used-up .before .before in
-    (omega arith, passed-last _ (start .args .at) _ _ _ _ (used-up .if1 .left) (c .if2 .taken))
+    (omega arith, passed-last _ _ _ _ _ _ (used-up .if1 .left) _ _ _ (c .if2 .taken))
 
 returns-3 : tie.Need-returns-3
 returns-3 c =
@@ -20,7 +19,7 @@ returns-3 c =
     let waits = first .before .before in
     let used-up = waits .before in
     let start = used-up .before .before in
-    (omega (arith, start .pre .2), passed-next _ (start .args .at) _ _ (used-up .if1 .left) (waits .if2 .left) (first .word .ensures) (c .word2 .ensures))
+    (omega (arith, start .pre .2), passed-next _ _ _ _ _ _ (used-up .if1 .left) _ (waits .if2 .left) (first .word .ensures) (c .word2 .ensures))
 
 pub past-spec : {M : Type 1} → statement M
 past-spec =

@@ -1,13 +1,14 @@
--- `to_run`: wherever the loop stands, the terms to be read are those of the piece given; each step leads to a lower node.
-use borrow.Author.Needs.{needs}
+-- `to_run`: wherever the loop stands, the terms to be read are those of the piece given; each step takes of the fuel.
 use native.Mathlib.Omega.{arith}
 use mathlib.Core.Path.{refl}
 use mathlib.Core.List.{[], append-nil}
 use lib.ListN.{length, length-set}
 use Prim.Native.Nat.{ℕ, _+_, _*_, _≤_, _<_}
 use Rattle.nodes.specs.NodeStore.{nodesIn, AnyStore}
-use Rattle.rope.specs.Pieces.{mostFields, restOf, Ready, Goes}
-use Rattle.rope.specs.PiecesLaws.{pushed, goes-here, goes-low, goes-on, goes-small, goes-in, goes-split, goes-cut, goes-front, none-wait}
+use Rattle.places.specs.Rest.{Ready}
+use Rattle.places.specs.RestLaws.{pushed, none-wait}
+use Rattle.rope.specs.Pieces.{mostFields, restOf, Goes}
+use Rattle.rope.specs.PiecesLaws.{goes-here, goes-on, goes-small, goes-in, goes-split, goes-cut, goes-front}
 use Rattle.rope.proofs.to_run.Statement.{statement}
 use Rattle.rope.proofs.to_run.Tie as tie
 
@@ -16,9 +17,8 @@ Inv-loop nodes stack₀ at₀ stack at =
     (at .depth ≤ mostFields)
     × ((used : ℕ) → AnyStore nodes used → Ready (nodesIn nodes used) (restOf at₀ stack₀) → Goes (nodesIn nodes used) (restOf at₀ stack₀) (restOf at stack))
 
--- A step leads to a lower node, or empties the stack.
 abbrev μ-loop : tie.MeasureT-loop
-μ-loop nodes stack₀ at₀ stack at = at .node * (mostFields + 1) + at .depth
+μ-loop nodes stack₀ at₀ stack at = at .fuel
 
 loop-holds : tie.Need-loop-holds Inv-loop μ-loop
 loop-holds c = (c .before .pre .1, λ used store ready. record { ready = ready; same = λ o xs g. ([], append-nil _) })
@@ -30,68 +30,61 @@ here : (c : tie.At-loop Inv-loop μ-loop)
 here c = let asked = c .before .before .pre .0 in c .loop .inv .1 _ (asked .store) (asked .ready)
 
 get-node-requires : tie.Need-get-node-requires Inv-loop μ-loop
-get-node-requires c κs = let store = c .before .before .pre .0 .store in omega (arith, store .store .fits, goes-here _ _ store (here c) refl .0)
+get-node-requires c κs =
+    let at-loop = c .before .before .before in
+    let store = at-loop .before .before .pre .0 .store in
+    omega (arith, store .store .fits, goes-here _ _ store (here at-loop) refl .0)
+
+-- ---- the fuel is spent ----
+
+returns : tie.Need-returns Inv-loop μ-loop
+returns c = let at-loop = c .before .before in (at-loop .loop .inv .0, λ some. absurd (omega (arith, c .if1 .taken)))
 
 -- ---- the part is used up: on to the tail or right ----
-
-loop-less : tie.Need-loop-less Inv-loop μ-loop
-loop-less c =
-    let used-up = c .before .before in
-    let read = used-up .before .before .before in
-    let at-loop = read .before in
-    omega (arith, goes-low _ _ (at-loop .before .before .pre .0 .store) (here at-loop) (read .get-node .ensures) (used-up .if1 .taken))
 
 loop-again : tie.Need-loop-again Inv-loop μ-loop
 loop-again c =
     let used-up = c .before .before in
     let read = used-up .before .before .before in
-    let at-loop = read .before in
+    let at-loop = read .before .before .before .before in
     let inv = at-loop .loop .inv in
-    (inv .0, λ used store ready. goes-on _ _ store (inv .1 used store ready) (read .get-node .ensures) (used-up .if1 .taken))
+    (inv .0, λ used store ready. goes-on _ _ store (inv .1 used store ready) (read .get-node .ensures) (used-up .if2 .taken))
 
 -- ---- a run ----
 
-returns : tie.Need-returns Inv-loop μ-loop
-returns c =
+returns-2 : tie.Need-returns-2 Inv-loop μ-loop
+returns-2 c =
     let inner = c .before .before in
     let read = inner .before .before .before in
-    let inv = read .before .loop .inv in (
+    let inv = read .before .before .before .before .loop .inv in (
       inv .0,
-      λ used store ready.
+      λ some used store ready.
           let goes = inv .1 used store ready in
-          record { goes = goes; begins = goes-front _ _ store goes (read .get-node .ensures) (c .if2 .taken) (inner .if1 .left) },
+          record { goes = goes; begins = goes-front _ _ store goes (read .get-node .ensures) (c .if3 .taken) (inner .if2 .left) },
     )
 
 -- ---- the piece lies in the left ----
-
-loop-less-2 : tie.Need-loop-less-2 Inv-loop μ-loop
-loop-less-2 c =
-    let concat = c .before .before .before .before in
-    let inner = concat .before .before in
-    let read = inner .before .before .before in
-    let at-loop = read .before in
-    omega (arith, goes-small _ _ (at-loop .before .before .pre .0 .store) (here at-loop) (read .get-node .ensures) (concat .if2 .left) (inner .if1 .left) .0)
 
 loop-again-2 : tie.Need-loop-again-2 Inv-loop μ-loop
 loop-again-2 c =
     let concat = c .before .before .before .before in
     let inner = concat .before .before in
     let read = inner .before .before .before in
-    let inv = read .before .loop .inv in
-    (inv .0, λ used store ready. goes-in _ _ store (inv .1 used store ready) (read .get-node .ensures) (concat .if2 .left) (inner .if1 .left) (c .if3 .taken))
+    let inv = read .before .before .before .before .loop .inv in
+    (inv .0, λ used store ready. goes-in _ _ store (inv .1 used store ready) (read .get-node .ensures) (concat .if3 .left) (inner .if2 .left) (c .if4 .taken))
 
 -- ---- the stack is full ----
 
 loop-again-3 : tie.Need-loop-again-3 Inv-loop μ-loop
 loop-again-3 c =
-    let at-loop = c .before .before .before .before .before .before .before .before .before .before .before .before in
+    let at-loop = c .before .before .before .before .before .before .before .before .before .before .before .before .before .before .before in
     (omega arith, λ used store ready. goes-cut (at-loop .loop .inv .1 used store ready) (none-wait _))
 
 -- ---- the piece goes on in the right, which waits ----
 
 mul-set-word : tie.Need-mul-set-word Inv-loop μ-loop
 mul-set-word c =
-    let at-loop = c .before .before .before .before .before .before .before .before .before .before .before .before .before .before in
+    let at-loop = c .before .before .before .before .before .before .before .before .before .before .before .before .before .before .before .before .before in
     omega (arith, at-loop .loop .inv .0)
 
 set-word-requires : tie.Need-set-word-requires Inv-loop μ-loop
@@ -100,57 +93,54 @@ set-word-requires c κs =
     let concat = has-room .before .before .before .before .before .before in
     let inner = concat .before .before in
     let read = inner .before .before .before in
-    let at-loop = read .before in
-    let small = goes-small _ _ (at-loop .before .before .pre .0 .store) (here at-loop) (read .get-node .ensures) (concat .if2 .left) (inner .if1 .left) in
-    (omega (arith, at-loop .loop .inv .0, has-room .if4 .left), omega (arith, small .1))
+    let at-loop = read .before .before .before .before in
+    let small = goes-small _ _ (at-loop .before .before .pre .0 .store) (here at-loop) (read .get-node .ensures) (concat .if3 .left) (inner .if2 .left) in
+    (omega (arith, at-loop .loop .inv .0, has-room .if5 .left), omega (arith, small .1))
 
 -- both words of the field fit on the stack
 fits : (c : tie.After-set-word Inv-loop μ-loop)
-    → let at-loop = c .before .before .before .before .before .before .before .before .before .before .before .before .before .before .before in
+    → let at-loop = c .before .before .before .before .before .before .before .before .before .before .before .before .before .before .before .before .before .before in
     at-loop .loop .at .depth * 2 + 1 < length (at-loop .loop .stack)
 fits c =
     let has-room = c .before .before .before in
-    omega (arith, has-room .before .before .before .before .before .before .before .before .before .before .before .before .loop .inv .0, has-room .if4 .left)
+    omega (arith, has-room .before .before .before .before .before .before .before .before .before .before .before .before .before .before .before .loop .inv .0, has-room .if5 .left)
 
 mul-set-word-2 : tie.Need-mul-set-word-2 Inv-loop μ-loop
 mul-set-word-2 c =
     let pushed-one = c .before .before .before in
-    let at-loop = pushed-one .before .before .before .before .before .before .before .before .before .before .before .before .before .before in
+    let at-loop = pushed-one .before .before .before .before .before .before .before .before .before .before .before .before .before .before .before .before .before in
     omega (arith, at-loop .loop .inv .0)
 
 add-set-word : tie.Need-add-set-word Inv-loop μ-loop
 add-set-word c =
     let pushed-one = c .before .before .before in
-    let at-loop = pushed-one .before .before .before .before .before .before .before .before .before .before .before .before .before .before in
+    let at-loop = pushed-one .before .before .before .before .before .before .before .before .before .before .before .before .before .before .before .before .before in
     omega (arith, at-loop .loop .inv .0)
 
 sub-set-word : tie.Need-sub-set-word Inv-loop μ-loop
-sub-set-word c = let longer = c .before .before .before .before .before .before .before .before in omega (arith, longer .if3 .left)
+sub-set-word c = let longer = c .before .before .before .before .before .before .before .before in omega (arith, longer .if4 .left)
 
 set-word-requires-2 : tie.Need-set-word-requires-2 Inv-loop μ-loop
 set-word-requires-2 c κs =
     let pushed-one = c .before .before .before in
     let has-room = pushed-one .before .before .before in
     let read = has-room .before .before .before .before .before .before .before .before .before .before .before in
-    let at-loop = read .before in (
-      rw (pushed-one .set-word .ensures, length-set) (omega (arith, at-loop .loop .inv .0, has-room .if4 .left)),
+    let at-loop = read .before .before .before .before in (
+      rw (pushed-one .set-word .ensures, length-set) (omega (arith, at-loop .loop .inv .0, has-room .if5 .left)),
       omega (arith, goes-here _ _ (at-loop .before .before .pre .0 .store) (here at-loop) (read .get-node .ensures) .2),
     )
 
 add-at : tie.Need-add-at Inv-loop μ-loop
 add-at c =
     let has-room = c .before .before .before .before .before .before .before .before in
-    let at-loop = has-room .before .before .before .before .before .before .before .before .before .before .before .before in
+    let at-loop = has-room .before .before .before .before .before .before .before .before .before .before .before .before .before .before .before in
     omega (arith, at-loop .loop .inv .0)
 
 loop-less-4 : tie.Need-loop-less-4 Inv-loop μ-loop
 loop-less-4 c =
     let has-room = c .before .before .before .before .before .before .before .before in
-    let concat = has-room .before .before .before .before .before .before in
-    let inner = concat .before .before in
-    let read = inner .before .before .before in
-    let at-loop = read .before in
-    omega (arith, goes-small _ _ (at-loop .before .before .pre .0 .store) (here at-loop) (read .get-node .ensures) (concat .if2 .left) (inner .if1 .left) .0)
+    let has-fuel = has-room .before .before .before .before .before .before .before .before .before .before .before .before .before in
+    omega (arith, has-fuel .if1 .left)
 
 loop-again-4 : tie.Need-loop-again-4 Inv-loop μ-loop
 loop-again-4 c =
@@ -161,9 +151,9 @@ loop-again-4 c =
     let concat = longer .before .before .before .before in
     let inner = concat .before .before in
     let read = inner .before .before .before in
-    let inv = read .before .loop .inv in (
-      omega (arith, inv .0, has-room .if4 .left),
-      λ used store ready. goes-split _ _ store (inv .1 used store ready) (read .get-node .ensures) (concat .if2 .left) (inner .if1 .left) (longer .if3 .left)
+    let inv = read .before .before .before .before .loop .inv in (
+      omega (arith, inv .0, has-room .if5 .left),
+      λ used store ready. goes-split _ _ store (inv .1 used store ready) (read .get-node .ensures) (concat .if3 .left) (inner .if2 .left) (longer .if4 .left)
           (pushed _ _ _ _ _ _ (fits pushed-one) (pushed-one .set-word .ensures) (pushed-two .set-word2 .ensures)),
     )
 
@@ -174,13 +164,15 @@ to-run-spec =
     Inv-loop
     μ-loop
     loop-holds
-    get-node-requires
-    (λ c. omega arith)
-    loop-less
-    loop-again
     returns
     (λ c. omega arith)
-    loop-less-2
+    get-node-requires
+    (λ c. omega arith)
+    (λ c. omega arith)
+    loop-again
+    returns-2
+    (λ c. omega arith)
+    (λ c. omega arith)
     loop-again-2
     (λ c. omega arith)
     loop-again-3

@@ -1,0 +1,55 @@
+-- `power`: by squaring; each exit is one law of powers. It calls itself once at most, with half the exponent.
+use mathlib.Core.Path.{sym, ap}
+use Prim.Native.Nat.{ℕ, _^_, _%_, _<_}
+use native.Mathlib.Omega.{arith}
+use borrow.Fn.Kinds.{In}
+use borrow.Fn.PlainCycle.{Measures, is, falls, and}
+use Rattle.numbers.specs.Digest.{prime, base}
+use Rattle.numbers.specs.DigestLaws.{product-fits, power-even, power-odd}
+use Rattle.numbers.proofs.power.Reads as power
+use Rattle.numbers.proofs.power.Kinds as power-kinds
+use Rattle.numbers.proofs.+power.Lts-power as power-lts
+use Rattle.numbers.proofs.+power.{statement}
+use Rattle.numbers.proofs.+power.Tie.{close}
+
+-- the exponent
+abbrev μ-power : Measures 0 power-kinds.ps ℕ
+μ-power κs a = a .0
+
+-- what it is given at the measure t, and what a call of it asks below t
+abbrev power-at : ℕ → In 0 power-kinds.ps
+power-at t = and 0 power-kinds.ps (is 0 power-kinds.ps μ-power t) power.Pre
+
+abbrev power-below : ℕ → In 0 power-kinds.ps
+power-below t = and 0 power-kinds.ps (falls 0 power-kinds.ps _<_ μ-power t) power.Pre
+
+returns : (t : ℕ) → power-lts.Need-returns (power-below t, power.Post) (power-at t) power.Post
+returns t c = sym (ap (λ k. base ^ k % prime) (c .if1 .taken))
+
+power-requires : (t : ℕ) → power-lts.Need-power-requires (power-below t, power.Post) (power-at t) power.Post
+power-requires t c κs = (omega (arith, c .before .pre .0, c .if1 .left), tt)
+
+mul-square : (t : ℕ) → power-lts.Need-mul-square (power-below t, power.Post) (power-at t) power.Post
+mul-square t c =
+    let half = c .power .result in
+    let small : half < prime = omega (arith, c .power .ensures) in
+    omega (arith, product-fits half half small small)
+
+returns-2 : (t : ℕ) → power-lts.Need-returns-2 (power-below t, power.Post) (power-at t) power.Post
+returns-2 t c = power-even _ _ (c .before .power .ensures) (c .if2 .taken)
+
+returns-3 : (t : ℕ) → power-lts.Need-returns-3 (power-below t, power.Post) (power-at t) power.Post
+returns-3 t c = power-odd _ _ (c .before .power .ensures) (c .if2 .left)
+
+pub +power-spec : {M : Type 1} → statement M
++power-spec =
+    close
+    μ-power
+    (λ t.
+    power-lts.spec (power-below t, power.Post) (power-at t) power.Post
+    (returns t)
+    (power-requires t)
+    (mul-square t)
+    (returns-2 t)
+    (λ c. omega arith)
+    (returns-3 t))
