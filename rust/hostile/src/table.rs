@@ -42,7 +42,7 @@ pub static ROWS: [Row; 27] = [
     row("clamped-twice", "nodes", ropes::clamped_twice, FULL, 8192, &[("equal", 200.0), ("starts_with", 200.0)]),
     row("clamped-apart", "nodes", ropes::clamped_apart, FULL, 8192, &[("equal", 250.0), ("starts_with", 250.0)]),
     row("clamped-calls", "nodes", ropes::clamped_by_calls, FULL, 8192, &[("flatten", 100.0), ("equal", 150.0)]),
-    row("joins", "nodes", ropes::joined, FULL, 16_384, &[("equal", 70.0)]),
+    row("joins", "nodes", ropes::joined, FULL, 16_384, &[("equal", 100.0)]),
     row("shared", "terms", brackets::shared_contents, FULL, 65_536, &[("compare_runs", 600.0), ("equal", 600.0), ("listing", 600.0)]),
     row("shared-names", "terms", brackets::shared_identifiers, up_to(16_000), 4000, &[("compare_runs", 80.0)]),
     row("shared-numbers", "terms", brackets::shared_numbers, up_to(16_000), 4000, &[("compare_runs", 100.0)]),
