@@ -1,7 +1,7 @@
 /* Inputs on which calls need the most stack that is known.
 
    Two terms are compared within a budget first. Where contents are shared so often that it is spent, all terms are numbered, with tables of some
-   200 KB. A listing compares at its last pattern record, below one call for each record, with words for the numbers set aside; comparing two
+   170 KB. A listing compares at its last pattern record, below one call for each record, with words for the numbers set aside; comparing two
    fields then reads their places part by part, with a table of 256 KB.
 
    The row of terms P X Q Y P X Q Y .. has all of it. It is compared with itself two terms further: P with Q, which spends the budget, then X

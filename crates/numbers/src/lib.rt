@@ -6,14 +6,12 @@ use words::Term;
 ghost use mathlib.Core.Path.{_≡_};
 ghost use mathlib.Core.List.{List, map};
 ghost use Prim.Native.Nat.{ℕ, _+_, _*_, _/_, _%_, _^_, _<_, _≤_};
-ghost use lib.Dec.{eqb};
 ghost use lib.ListN.{length, getD, set, take, drop};
 ghost use Rattle.term_spec.specs.Text.{lower, textAt};
 ghost use Rattle.term_spec.specs.Term.{limit, bracketKind};
 ghost use Rattle.value.specs.Equal.{TermStore, equalAt, equalRuns};
-ghost use Rattle.words.specs.Records.{asTerm, asRun};
+ghost use Rattle.words.specs.Records.{asTerm};
 ghost use Rattle.numbers.specs.Digest.{prime, base, stride, more, digest, digit, Marked};
-ghost use Rattle.numbers.specs.Buckets.{buckets};
 ghost use Rattle.numbers.specs.Numbers.{Numbers, Agree, Readable, keyOf, symbolKey, Tables, Searched, Placed};
 
 // ---- digests ----
@@ -150,6 +148,7 @@ fn digest_part(numbers: &[u16], marks: &[u32], s: usize, n: usize) -> usize
 
 // ---- buckets ----
 
+// How many buckets there are.
 pub const BUCKETS: usize = 8192;
 
 // The places of a bucket are a chain. `heads` has for each bucket the place entered last, plus one, and `earlier` for each place the one entered
@@ -186,7 +185,8 @@ fn symbol_digest(names: &[u8], t: Term) -> usize
 // The bucket of a term, the terms below it having their numbers. Equal terms have one bucket.
 fn bucket_of(names: &[u8], numbers: &[u16], marks: &[u32], t: Term) -> usize
     requires readable { ⌜ Readable (now names) t ⌝ }
-    requires below { ⌜ (t .kind ≡ bracketKind → (t .a + t .b ≤ length (now numbers)) × (t .a + t .b ≤ limit) × Marked (now numbers) (now marks) (t .a + t .b)) ⌝ }
+    requires below { let end = t .a + t .b in
+        ⌜ (t .kind ≡ bracketKind → (end ≤ length (now numbers)) × (end ≤ limit) × Marked (now numbers) (now marks) end) ⌝ }
     ensures { λ r. ⌜ r ≡ keyOf (now (names .entry)) (now (numbers .entry)) (asTerm t) ⌝ }
 {
     if t.kind == words::BRACKET {
@@ -357,7 +357,7 @@ fn number_with(
     }
 }
 
-// Every used term gets its number. The tables take 172 KB of stack.
+// Every used term gets its number. The tables take 168 KB of stack.
 pub fn number_terms(names: &[u8], terms: &[u32], used: usize, numbers: &mut [u16])
     requires { ⌜ TermStore (now names) (now terms) used × (used ≤ limit) × (used ≤ length (now numbers)) ⌝ }
     ensures { λ _.
