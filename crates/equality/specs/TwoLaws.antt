@@ -3,12 +3,13 @@ use mathlib.Core.Path.{_≡_, sym, _∙_}
 use mathlib.Core.List.{List}
 use mathlib.Core.Bool.{Bool, true, false, _&&_}
 use Prim.Native.Nat.{ℕ, suc, _+_, _<_}
+use native.Mathlib.Nat.{add-zero}
 use native.Mathlib.Omega.{arith}
 use Rattle.term_spec.specs.Words.{recordAt}
 use Rattle.term_spec.specs.Term.{Term, Run, termLayout, charKind, bracketKind, contentsRun}
 use Rattle.value.specs.Equal.{Texts, equalSymbols, equalAt}
 use Rattle.value.specs.EqualLaws.{depthAt, deepestIn, texts-at, symbols-apart, symbols-chars, contents-below, contents-shallow, at-differ, at-symbols}
-use Rattle.value.specs.EqualLaws.{at-brackets, runsFrom, runs-more}
+use Rattle.value.specs.EqualLaws.{at-brackets, runsFrom, runs-all, runs-more}
 use Rattle.equality.specs.Within.{TermsIn, RunsIn, sameRuns}
 
 -- ---- two terms that were read ----
@@ -75,3 +76,13 @@ module _ {names w : List ℕ} {r q : Run} {used k : ℕ} (lies : RunsIn names w 
   pub runs-next : {b : Bool} → equalAt names w used (r .start + k) (q .start + k) ≡ b
       → runsFrom names w used (r .start) (r .len) (q .start) k ≡ b && runsFrom names w used (r .start) (r .len) (q .start) (k + 1)
   runs-next e = runs-more names w used (r .start) (r .len) (q .start) k more (lies .first) (omega (arith, lies .second)) e
+
+-- The first terms of two runs, and runs that differ in them.
+module _ {names w : List ℕ} {r q : Run} {used : ℕ} (lies : RunsIn names w r q used) (same : r .len ≡ q .len) (some : r .len ≡ 0 → ⊥) where
+  pub firsts-inside : TermsIn names w (r .start) (q .start) used
+  firsts-inside = rw (add-zero (r .start), add-zero (q .start)) at (terms-inside {k = 0} lies same (omega arith))
+
+  pub runs-apart : equalAt names w used (r .start) (q .start) ≡ false → sameRuns names w used r q ≡ false
+  runs-apart e =
+      runs-all names w used _ _ _ _ same
+      ∙ runs-next lies same (omega arith) {b = false} (rw (add-zero (r .start), add-zero (q .start)) e)

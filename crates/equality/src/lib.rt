@@ -4,6 +4,8 @@
 use words::Run;
 use words::refusal;
 ghost use mathlib.Core.Path.{_≡_};
+ghost use mathlib.Core.List.{List};
+ghost use mathlib.Core.Bool.{true, false};
 ghost use Prim.Native.Nat.{ℕ, _+_, _<_, _≤_};
 ghost use lib.ListN.{length};
 ghost use Rattle.value.specs.Equal.{TermStore, equalAt, equalRuns};
@@ -11,7 +13,8 @@ ghost use Rattle.equality.specs.Compare.{comparedRuns, answerOf};
 ghost use Rattle.equality.specs.Within.{TermsIn, RunsIn, sameRuns, Tells};
 ghost use Rattle.equality.specs.Memory.{Memory};
 ghost use Rattle.words.specs.Records.{asRun};
-ghost use Rattle.term_spec.specs.Term.{limit};
+ghost use Rattle.term_spec.specs.Words.{Lies};
+ghost use Rattle.term_spec.specs.Term.{termLayout, limit};
 
 // ---- within a budget ----
 
@@ -176,27 +179,22 @@ fn equal_from_now_on(
     numbers::equal_numbered(known, first, second)
 }
 
-// Whether the n terms from s on and the m terms from p on are equal, term by term.
-pub fn equal_runs(
+// Whether two runs are equal, by what is kept or else within what is left of the budget.
+fn equal_kept(
     names: &[u8],
     terms: &[u32],
     used: usize,
-    s: usize,
-    n: usize,
-    p: usize,
-    m: usize,
+    first: Run,
+    second: Run,
     known: &mut [u16],
 ) -> bool
-    requires store { ⌜ TermStore (now names) (now terms) used × (used ≤ limit) ⌝ }
-    requires within { ⌜ (s + n ≤ used) × (p + m ≤ used) ⌝ }
+    requires runs { ⌜ RunsIn (now names) (now terms) (asRun first) (asRun second) used ⌝ }
     requires memory { ⌜ Memory (now names) (now terms) used (now known) ⌝ }
     ensures { λ r.
         let text = now (names .entry) in
         let store = now (terms .entry) in
-        ⌜ (r ≡ equalRuns text store used s n p m) × Memory text store used (now (known .exit)) ⌝ }
+        ⌜ (r ≡ sameRuns text store used (asRun first) (asRun second)) × Memory text store used (now (known .exit)) ⌝ }
 {
-    let first = Run { start: s, len: n };
-    let second = Run { start: p, len: m };
     if known.len() <= used {
         return equal_alone(names, terms, used, first, second);
     }
@@ -215,6 +213,59 @@ pub fn equal_runs(
         }
         Outcome::Spent => equal_from_now_on(names, terms, used, first, second, known),
     }
+}
+
+// Whether terms i and j differ at sight: by their kinds, or as Chars.
+fn apart_at_sight(terms: &[u32], i: usize, j: usize) -> bool
+    requires { ⌜ Lies termLayout (now terms) (i + 1) × Lies termLayout (now terms) (j + 1) ⌝ }
+    ensures { λ r.
+        let store = now (terms .entry) in
+        ⌜ ((names : List ℕ) (used : ℕ) → TermsIn names store i j used
+        → r ≡ true → equalAt names store used i j ≡ false) ⌝ }
+{
+    let t = words::get_term(terms, i);
+    let u = words::get_term(terms, j);
+    if t.kind != u.kind {
+        return true;
+    }
+    if t.kind != words::CHAR {
+        return false;
+    }
+    t.a != u.a
+}
+
+// Whether the n terms from s on and the m terms from p on are equal, term by term. Most that differ do so at sight, which is cheaper to see than what
+// is kept.
+pub fn equal_runs(
+    names: &[u8],
+    terms: &[u32],
+    used: usize,
+    s: usize,
+    n: usize,
+    p: usize,
+    m: usize,
+    known: &mut [u16],
+) -> bool
+    requires store { ⌜ TermStore (now names) (now terms) used × (used ≤ limit) ⌝ }
+    requires within { ⌜ (s + n ≤ used) × (p + m ≤ used) ⌝ }
+    requires memory { ⌜ Memory (now names) (now terms) used (now known) ⌝ }
+    ensures { λ r.
+        let text = now (names .entry) in
+        let store = now (terms .entry) in
+        ⌜ (r ≡ equalRuns text store used s n p m) × Memory text store used (now (known .exit)) ⌝ }
+{
+    if n != m {
+        return false;
+    }
+    if n == 0 {
+        return true;
+    }
+    if apart_at_sight(terms, s, p) {
+        return false;
+    }
+    let first = Run { start: s, len: n };
+    let second = Run { start: p, len: m };
+    equal_kept(names, terms, used, first, second, known)
 }
 
 // ---- any two runs ----

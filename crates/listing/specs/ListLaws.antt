@@ -25,8 +25,9 @@ use Rattle.match_spec.specs.Walk.{runs}
 use Rattle.match_spec.specs.Answer.{Wanted, Progress, slotsIn, absorb, numberOf}
 use Rattle.match_spec.specs.RunLaws.{Inside}
 use Rattle.calls_spec.specs.Store.{Store, terms, nodes, capacity, addTerms}
-use Rattle.calls_spec.specs.Step.{Request, Answer, refused, inStore, answerNumber, callMatch, ask, evenRequest, askRequest, given, fits, changed, deed, input, room, accept, refuse}
-use Rattle.calls_spec.specs.Step.{step, items, bindings, patternOf, startNames, allNames, numberedPattern, startRuns, fieldCopy, matchEvents, matchProgress, matchAnswer, fillSlots}
+use Rattle.calls_spec.specs.Step.{Request, Answer, refused, inStore, answerNumber, callMatch, ask, evenRequest, askRequest, given, fits, changed, deed, input}
+use Rattle.calls_spec.specs.Step.{room, accept, refuse, step, items, bindings, patternOf, startNames, allNames, numberedPattern, startRuns, fieldCopy}
+use Rattle.calls_spec.specs.Step.{matchEvents, matchProgress, matchAnswer, fillSlots}
 use Rattle.view_spec.specs.NodeLaws.{facts-field}
 use Rattle.calls_spec.specs.Demand3.{readSlots}
 use Rattle.view.specs.Check.{storeOf, numbered}
@@ -94,7 +95,8 @@ pub start-many : (s : Store) (m : Request) → nameLimit < length (m .bindings) 
 unfolding records count
 start-many s m h =
     let (u, e) = names-grow (patternOf s m) (startNames s m) in
-    let n : length (startNames s m) ≡ length (m .bindings) / 5 = length-map (bindings m) (bindingName (s .names)) ∙ decode-length bindingLayout (length (m .bindings) / 5) (m .bindings) in
+    let n : length (startNames s m) ≡ length (m .bindings) / 5 =
+    length-map (bindings m) (bindingName (s .names)) ∙ decode-length bindingLayout (length (m .bindings) / 5) (m .bindings) in
     omega (arith, ap length e, length-append (startNames s m) u)
 
 -- ---- settling ----
@@ -159,7 +161,8 @@ pub record Settled (s : Store) (m : Request) (entries : ℕ) (numbers : List ℕ
   pub words-are : words ≡ write termLayout (s .termWords) (s .termsUsed) (fieldCopy s (m .field))
   pub used-is : used ≡ s .termsUsed + length (fieldCopy s (m .field))
 
-module _ (s : Store) (m : Request) (entries : ℕ) (numbers : List ℕ) (run : Run) (words : List ℕ) (used : ℕ) (o : Settled s m entries numbers run words used) where
+module _ (s : Store) (m : Request) (entries : ℕ) (numbers : List ℕ) (run : Run) (words : List ℕ) (used : ℕ)
+    (o : Settled s m entries numbers run words used) where
   size-terms : length (terms s) ≡ s .termsUsed
   unfolding terms
   size-terms = decode-length termLayout (s .termsUsed) (s .termWords)
@@ -179,17 +182,23 @@ module _ (s : Store) (m : Request) (entries : ℕ) (numbers : List ℕ) (run : R
   used-size : length (terms s ++ fieldCopy s (m .field)) ≡ used
   used-size = length-append (terms s) (fieldCopy s (m .field)) ∙ omega (arith, size-terms, o .used-is)
 
-  pub room-terms : (used ≤ limit) × Lies termLayout (s .termWords) used
+  room-terms : (used ≤ limit) × Lies termLayout (s .termWords) used
   unfolding capacity count
   room-terms =
       let h : s .termsUsed + length (fieldCopy s (m .field)) ≤ min (length (s .termWords) / termLayout .width) limit = leb-true _ _ (o .fits) in
       (omega (arith, o .used-is), omega (arith, o .used-is))
 
   words-size : length words ≡ length (s .termWords)
-  words-size = ap length (o .words-are) ∙ write-length termLayout term-lays (s .termWords) (s .termsUsed) (fieldCopy s (m .field)) (omega (arith, room-terms .1, o .used-is))
+  words-size =
+      ap length (o .words-are)
+      ∙ write-length termLayout term-lays (s .termWords) (s .termsUsed) (fieldCopy s (m .field)) (omega (arith, room-terms .1, o .used-is))
 
   pub store-after : TermStore (s .names) words used
   store-after = record { fits = omega (arith, room-terms .1, words-size); good = rw terms-after (settles-here .good) }
+
+  -- the run is among the used terms
+  pub start-inside : Inside used run
+  start-inside = rw (o .run-is) (omega (arith, run-facts _ _ (settles-here .inside), used-size))
 
   -- the pattern by words and numbers is the numbered one
   pattern-is : patternIn (s .names) (m .pattern) numbers ≡ numberedPattern s m
@@ -205,7 +214,7 @@ module _ (s : Store) (m : Request) (entries : ℕ) (numbers : List ℕ) (run : R
     start-stays : Stays used (patternIn (s .names) (m .pattern) numbers) entries run [] (startRuns m)
     unfolding All
     start-stays = record {
-      level-in = rw (o .run-is) (omega (arith, run-facts _ _ (settles-here .inside), used-size));
+      level-in = start-inside;
       around-in = tt;
       entries-in = runs-in (s .termsUsed) used (startRuns m) (omega (arith, o .used-is)) (o .runs-ok);
       shallow = omega arith;
@@ -240,7 +249,8 @@ module _ (s : Store) (m : Request) (entries : ℕ) (numbers : List ℕ) (run : R
 
     module _ (q : Wanted) (f : Tally) (after : List ℕ)
         (walked : progressOf entries f after
-        ≡ absorb q (slotsIn (length slots) entries) (eventsAt (givenOf (s .names) words used (m .pattern) numbers) run (startRuns m)) (progressOf entries noTally slots))
+        ≡ absorb q (slotsIn (length slots) entries) (eventsAt (givenOf (s .names) words used (m .pattern) numbers) run (startRuns m))
+        (progressOf entries noTally slots))
         (lent : slots ≡ m .slots) where
       pub walked-is : progressOf entries f after ≡ matchProgress s q m
       unfolding matchProgress matchEvents readSlots statusOf
@@ -257,7 +267,8 @@ module _ (s : Store) (m : Request) (entries : ℕ) (numbers : List ℕ) (run : R
 -- what the numbering of names, and settling, say
 pub settled-from : (s : Store) (m : Request) (entries : ℕ) (numbers : List ℕ) (run : Run) (words : List ℕ) (used : ℕ) (z : Answer)
     → Within8 s (m .field) (m .pattern) (m .bindings) → entries ≡ min 65 (length (allNames s m))
-    → (entries ≤ nameLimit → take (count itemLayout (m .pattern)) numbers ≡ numbersOf (patternOf s m) (startNames s m)) → entries ≤ nameLimit → patternLimit ≤ length numbers
+    → (entries ≤ nameLimit → take (count itemLayout (m .pattern)) numbers ≡ numbersOf (patternOf s m) (startNames s m))
+    → entries ≤ nameLimit → patternLimit ≤ length numbers
     → (z, words, used)
     ≡ settledBy (s .termWords) (s .termsUsed) (copy (decode termLayout (s .termsUsed) (s .termWords)) (nodesIn (s .nodeWords) (s .nodesUsed)) (m .field))
     (settledRun (decode termLayout (s .termsUsed) (s .termWords)) (nodesIn (s .nodeWords) (s .nodesUsed)) (m .field))
@@ -311,7 +322,8 @@ module _ (s : Store) (q : Wanted) (m : Request) {n : ℕ} (e : n ≡ numbered (r
     module _ (entries : ℕ) (numbers : List ℕ) (run : Run) (words : List ℕ) (used : ℕ) (o : Settled s m entries numbers run words used) (slots : List ℕ)
         (lent : slots ≡ m .slots) where
       pub exit-done : (f : Tally) (after : List ℕ) {cap : ℕ} {head : Bool} → cap ≡ slotsIn (length slots) entries → q ≡ wantedOf head
-          → Written (record { entries = entries; cap = cap; head = head }) (eventsAt (givenOf (s .names) words used (m .pattern) numbers) run (startRuns m)) noTally f slots after
+          → Written (record { entries = entries; cap = cap; head = head }) (eventsAt (givenOf (s .names) words used (m .pattern) numbers) run (startRuns m))
+          noTally f slots after
           → length after ≡ length slots → {a : Answer}
           → ((w : List (List Run)) → length w ≡ f .count → a ≡ matchAnswer (numberOf (statusOf (f .stop)) w) (f .count) entries)
           → leavesSlots a (storeOf (s .names) words used (s .nodeWords) (s .nodesUsed)) after ≡ step s (callMatch q m)

@@ -5,13 +5,14 @@ use mathlib.Core.Option.{Option, none}
 use mathlib.Core.Bool.{Bool, _&&_}
 use lib.Dec.{leb}
 use lib.ListN.{length}
-use Prim.Native.Nat.{ℕ, _+_, _*_, _<_, _≤_}
+use Prim.Native.Nat.{ℕ, _+_, _*_, _<_}
 use Rattle.term_spec.specs.Words.{whole, count, records}
-use Rattle.term_spec.specs.Term.{Run, runsRule, limit}
+use Rattle.term_spec.specs.Term.{Run, runsRule}
 use Rattle.term_spec.specs.Refusal.{uneven, badTerm, badNode, badField, pastEnd, badPattern, badBinding, moreThanFit}
 use Rattle.view_spec.specs.Node.{Field, fieldRule}
 use Rattle.match_spec.specs.Pattern.{itemLayout, bindingLayout, boundRun, patternRule, bindingsRule, patternLimit, nameLimit}
 use Rattle.match_spec.specs.Walk.{Event, walk}
+use Rattle.match_spec.specs.RunLaws.{Inside}
 use Rattle.calls_spec.specs.Store.{Store, nodes, countsRule, storeTerms, storeNodes}
 use Rattle.calls_spec.specs.Step.{Request, Answer, refused, listed, After, ask, bindings, startRuns}
 use Rattle.steps.specs.State.{Place, levelsOf, entriesOf, LevelRoom, EntryRoom}
@@ -70,9 +71,10 @@ ReadyToStart v m r start = (st : Place) → levelsOf st ≡ r ∷ [] → entries
 abbrev pub eventsAt : Given → Run → List Run → List (Event (List Run))
 eventsAt v r start = walk (readingOf v) (patternFrom v 0) (r ∷ []) start
 
--- The same on the words and counts that the code has: the start's bindings are few, and the slots are ready.
+-- The same on the words and counts that the code has: the run is among the used terms, the start's bindings are few, and the
+-- slots are ready.
 pub record CanStart (v : Given) (bindings : List ℕ) (run : CodeRun) (g : Goal) (slots : List ℕ) : Type 0 where
-  pub few-terms : v .used ≤ limit
+  pub inside : Inside (v .used) (asRun run)
   pub few : length bindings < (nameLimit + 1) * bindingLayout .width
   pub ready : ReadyToStart v (g .entries) (asRun run) (map boundRun (records bindingLayout bindings))
   pub open-slots : SlotsReady g noTally slots

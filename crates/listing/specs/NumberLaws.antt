@@ -9,7 +9,8 @@ use borrow.Author.Tests.{ltb-true}
 use Rattle.term_spec.specs.BoolLaws.{both-of, T-true}
 use Rattle.term_spec.specs.Value.{canon}
 use Rattle.match_spec.specs.Element.{Element, lit, opening, closing, call, one, many, canonE}
-use Rattle.match_spec.specs.Pattern.{Item, noItem, Name, find, add, namesAfter, number, elementK, element, elements, itemRuleK, closeRule, nestRuleK, noneOpen, itemsRule, patternRule}
+use Rattle.match_spec.specs.Pattern.{Item, noItem, Name, find, add, namesAfter, number, elementK, element, elements, itemRuleK, closeRule, nestRuleK}
+use Rattle.match_spec.specs.Pattern.{noneOpen, itemsRule, patternRule}
 use Rattle.match_spec.specs.NameLaws.{find-le, add-length}
 use Rattle.pattern.specs.Records.{numbersOf}
 use Rattle.steps.specs.State.{renamed, coded, codedAll}
@@ -65,9 +66,12 @@ sound-by (suc (suc (suc zero))) names all t i opened rest es tab ih h =
 sound-by (suc (suc (suc (suc zero)))) names all t i [] rest es tab ih h = absurd h
 sound-by (suc (suc (suc (suc zero)))) names all t i (o ∷ opened) rest es tab ih h =
     ih opened tab (both-of (eqb (t .a) o && eqb ((getD all o noItem) .a) i) (rest opened) h .1)
-sound-by (suc (suc (suc (suc (suc zero))))) names all t i opened rest es tab ih h = (find-le _ tab, rw (← add-length _ tab) (ih opened (add _ tab) h))
-sound-by (suc (suc (suc (suc (suc (suc zero)))))) names all t i opened rest es tab ih h = (find-le _ tab, rw (← add-length _ tab) (ih opened (add _ tab) h))
-sound-by (suc (suc (suc (suc (suc (suc (suc zero))))))) names all t i opened rest es tab ih h = (find-le _ tab, rw (← add-length _ tab) (ih opened (add _ tab) h))
+sound-by (suc (suc (suc (suc (suc zero))))) names all t i opened rest es tab ih h =
+    (find-le _ tab, rw (← add-length _ tab) (ih opened (add _ tab) h))
+sound-by (suc (suc (suc (suc (suc (suc zero)))))) names all t i opened rest es tab ih h =
+    (find-le _ tab, rw (← add-length _ tab) (ih opened (add _ tab) h))
+sound-by (suc (suc (suc (suc (suc (suc (suc zero))))))) names all t i opened rest es tab ih h =
+    (find-le _ tab, rw (← add-length _ tab) (ih opened (add _ tab) h))
 sound-by (suc (suc (suc (suc (suc (suc (suc (suc k)))))))) names all t i opened rest es tab ih h = ih opened tab h
 
 none-open : (opened : List ℕ) → T (noneOpen opened) → length opened ≡ 0

@@ -71,7 +71,8 @@ module _ (p b : List ℕ) where
   pub even-short : evenWords p b ≡ true → length p ≤ 1027
   unfolding count
   even-short e =
-      let h : length p / 4 ≤ patternLimit = leb-true _ _ (and-right (whole itemLayout p) _ (and-left (whole itemLayout p && leb (count itemLayout p) 256) (whole bindingLayout b) e)) in
+      let even = and-left (whole itemLayout p && leb (count itemLayout p) 256) (whole bindingLayout b) e in
+      let h : length p / 4 ≤ patternLimit = leb-true _ _ (and-right (whole itemLayout p) _ even) in
       omega arith
 
 -- ---- 1 to 8 ----

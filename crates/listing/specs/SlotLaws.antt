@@ -60,4 +60,6 @@ slots-filled m c before after h e =
 
 -- Whole slots fit.
 pub room-for : (words m : ℕ) → slotsIn words m * (m * 2) ≤ words
-room-for words m = let z : slotsIn words m * (m * 2) ≡ slotsIn words m * m * 2 = sym (mul-assoc (slotsIn words m) m 2) in omega (arith, z, slots-fit words m (slotsIn words m) (omega arith))
+room-for words m =
+    let z : slotsIn words m * (m * 2) ≡ slotsIn words m * m * 2 = sym (mul-assoc (slotsIn words m) m 2) in
+    omega (arith, z, slots-fit words m (slotsIn words m) (omega arith))

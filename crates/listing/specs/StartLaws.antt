@@ -55,7 +55,8 @@ unfolding stackOf
 start-levels st e = ap (λ n. levelOf st ∷ stackOf n (st .levels)) e
 
 pub start-entries : (bindings : List ℕ) (st : Place) → st .bound ≡ length bindings / 5
-    → decode runLayout (count bindingLayout bindings) (st .binds) ≡ map boundRun (records bindingLayout bindings) → entriesOf st ≡ map boundRun (records bindingLayout bindings)
+    → decode runLayout (count bindingLayout bindings) (st .binds) ≡ map boundRun (records bindingLayout bindings)
+    → entriesOf st ≡ map boundRun (records bindingLayout bindings)
 unfolding count
 start-entries bindings st e h = ap (λ n. decode runLayout n (st .binds)) e ∙ h
 

@@ -81,10 +81,11 @@ fn walk_with(
 }
 
 // Words for what comparing finds, by the size of the store: to clear more than are needed would take longer than a small listing. The functions that
-// have many never call themselves; that they could keeps the compiler from copying them, and their stack, into their caller.
+// have many never call themselves; that they could keeps the compiler from copying them, and their stack, into their caller, which has to touch each
+// page of its stack at every call.
 const NONE: usize = 1;
 
-const SMALL: usize = 1024;
+const SMALL: usize = 256;
 
 const MIDDLE: usize = 4096;
 
@@ -182,7 +183,7 @@ fn walk_keeping_more(
         slots,
         &mut known,
     );
-    if words::LIMIT < used {
+    if used < run.start {
         return walk_keeping_more(
             names,
             terms,
@@ -228,7 +229,7 @@ fn walk_keeping_all(
         slots,
         &mut known,
     );
-    if words::LIMIT < used {
+    if used < run.start {
         return walk_keeping_all(
             names,
             terms,
@@ -263,7 +264,7 @@ fn variables(pattern: &[u32]) -> usize
     count
 }
 
-// The walk with as much kept as it may need: nothing where no variable is met twice, since then nothing is compared.
+// The walk with as much kept as it may need: in larger stores nothing where no variable is met twice, since then nothing is compared.
 pub fn walk_from(
     names: &[u8],
     terms: &[u32],
@@ -281,9 +282,8 @@ pub fn walk_from(
         let given = givenOf (now (names .entry)) (now (terms .entry)) used (now (pattern .entry)) (now (numbers .entry)) in
         ⌜ Started given (now (bindings .entry)) run g r (now (slots .entry)) (now (slots .exit)) ⌝ }
 {
-    let given = bindings.len() / items::BINDING_WIDTH;
-    if given + variables(pattern) == g.entries {
-        return walk_keeping_none(
+    if used < SMALL {
+        return walk_keeping_few(
             names,
             terms,
             used,
@@ -295,8 +295,9 @@ pub fn walk_from(
             slots,
         );
     }
-    if used < SMALL {
-        return walk_keeping_few(
+    let given = bindings.len() / items::BINDING_WIDTH;
+    if given + variables(pattern) == g.entries {
+        return walk_keeping_none(
             names,
             terms,
             used,

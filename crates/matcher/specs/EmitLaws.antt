@@ -30,7 +30,8 @@ pub record Pasted (before binds : List ℕ) (base n : ℕ) (after : List ℕ) (i
 pub pasted-none : (before binds : List ℕ) (base n : ℕ) → Pasted before binds base n before 0
 pasted-none before binds base n = record { most = omega arith; words = paste-zero before base binds }
 
-module _ {before binds : List ℕ} {base n : ℕ} {after : List ℕ} {i : ℕ} (so-far : Pasted before binds base n after i) (fits : base + n ≤ length before) (long : n ≤ length binds) where
+module _ {before binds : List ℕ} {base n : ℕ} {after : List ℕ} {i : ℕ} (so-far : Pasted before binds base n after i) (fits : base + n ≤ length before)
+    (long : n ≤ length binds) where
   pub pasted-length : length after ≡ length before
   pasted-length = ap length (so-far .words) ∙ length-paste before base binds i (omega (arith, so-far .most)) (omega (arith, so-far .most))
 
@@ -122,8 +123,10 @@ module _ (g : Goal) (f : Tally) (before : List ℕ) (goes : f .stop ≡ 0) where
   }
 
   -- the next slot has the words of the entries
-  pub emit-written : (stop : ℕ) {binds after : List ℕ} {i : ℕ} → g .cap * slotWords (g .entries) ≤ length before → slotWords (g .entries) ≤ length binds → f .count < g .cap
-      → Pasted before binds (f .count * slotWords (g .entries)) (slotWords (g .entries)) after i → slotWords (g .entries) ≤ i → statusOf stop ≡ afterOne (wantedOf (g .head))
+  pub emit-written : (stop : ℕ) {binds after : List ℕ} {i : ℕ} → g .cap * slotWords (g .entries) ≤ length before
+      → slotWords (g .entries) ≤ length binds → f .count < g .cap
+      → Pasted before binds (f .count * slotWords (g .entries)) (slotWords (g .entries)) after i → slotWords (g .entries) ≤ i
+      → statusOf stop ≡ afterOne (wantedOf (g .head))
       → Written g (hit (decode runLayout (g .entries) binds) ∷ []) f (record { stop = stop; count = f .count + 1 }) before after
   emit-written stop {binds} {after} {i} room long lt so-far ended es =
       let m = g .entries in

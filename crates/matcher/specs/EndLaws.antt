@@ -85,8 +85,9 @@ module _ (names : List ℕ) (ts : List Term) (r : Run) (st env : List Run) (some
   ends-early (many n ∷ p) e = let z : _≡_ {A = ℕ} 0 1 = cc in absurd (omega arith)
 
 -- a known e-variable takes its own terms
-spread-known : {P : Type 0} (rd : Reading Run) (d : Dec P) (b : Bool) (x : Run) (p : List (Element ℕ)) (env : List Run) (r : Run) (f : Run → List Run → List (Event (List Run)))
-    → P → spread rd d b x p env r f ≡ enter (strip (rd .cells x) (rd .cells r)) (λ t. f (rd .back (length (rd .cells x)) r) env)
+spread-known : {P : Type 0} (rd : Reading Run) (d : Dec P) (b : Bool) (x : Run) (p : List (Element ℕ)) (env : List Run) (r : Run)
+    (f : Run → List Run → List (Event (List Run))) → P
+    → spread rd d b x p env r f ≡ enter (strip (rd .cells x) (rd .cells r)) (λ t. f (rd .back (length (rd .cells x)) r) env)
 unfolding spread
 spread-known rd (yes h) b x p env r f k = refl
 spread-known rd (no h) b x p env r f k = absurd (h k)
@@ -98,7 +99,8 @@ module _ (names : List ℕ) (ts : List Term) (p : List (Element ℕ)) (x : ℕ) 
 
   -- what is left of the level after the variable's terms, if they fit
   after-known : (o : Option Level) → strip (cellsOf names ts known-run) (cellsOf names ts r) ≡ o
-      → enter o (λ t. walk (runs names ts) p (record { start = r .start + length (cellsOf names ts known-run); len = r .len - length (cellsOf names ts known-run) } ∷ st) env) ≡ []
+      → let own = length (cellsOf names ts known-run) in
+      enter o (λ t. walk (runs names ts) p (record { start = r .start + own; len = r .len - own } ∷ st) env) ≡ []
   unfolding enter
   after-known none q = refl
   after-known (some t) q =
@@ -107,9 +109,11 @@ module _ (names : List ℕ) (ts : List Term) (p : List (Element ℕ)) (x : ℕ) 
       let a = cells-size names ts r inside in
       let b = cells-size names ts known-run v-in in
       let n : r .len ≡ length (cellsOf names ts known-run) → ⊥ = λ z. apart (sym b ∙ sym z) in
-      ends-early names ts _ st env
-      (omega (arith, cells-size names ts (record { start = r .start + length (cellsOf names ts known-run); len = r .len - length (cellsOf names ts known-run) }) (omega arith))) p e
+      let own = length (cellsOf names ts known-run) in
+      ends-early names ts _ st env (omega (arith, cells-size names ts (record { start = r .start + own; len = r .len - own }) (omega arith))) p e
 
   pub known-apart : walk (runs names ts) (many x ∷ p) (r ∷ st) env ≡ []
   unfolding walk topLevel
-  known-apart = spread-known (runs names ts) (decLt x (length env)) (ends p) known-run p env r _ known ∙ after-known (strip (cellsOf names ts known-run) (cellsOf names ts r)) refl
+  known-apart =
+      spread-known (runs names ts) (decLt x (length env)) (ends p) known-run p env r _ known
+      ∙ after-known (strip (cellsOf names ts known-run) (cellsOf names ts r)) refl

@@ -25,7 +25,8 @@ later : (n a b : ℕ) (v w : List ℕ) → a ≤ b → drop (a * n) v ≡ drop (
 later n a b v w h e =
     let k : a * n ≤ b * n = mul-le-mul-right n h in
     let z : a * n + (b * n - a * n) ≡ b * n = omega arith in
-    ap (λ i. drop i v) (sym z) ∙ sym (drop-drop (b * n - a * n) (a * n) v) ∙ ap (drop (b * n - a * n)) e ∙ drop-drop (b * n - a * n) (a * n) w ∙ ap (λ i. drop i w) z
+    ap (λ i. drop i v) (sym z) ∙ sym (drop-drop (b * n - a * n) (a * n) v) ∙ ap (drop (b * n - a * n)) e
+    ∙ drop-drop (b * n - a * n) (a * n) w ∙ ap (λ i. drop i w) z
 
 filled-more : (m cap : ℕ) {f g r : Tally} {u v w : List ℕ} → Filled m cap f g u v → Filled m cap g r v w → Filled m cap f r u w
 filled-more m cap {f} {g} {r} {u} {v} {w} a b = record {
@@ -78,7 +79,8 @@ module _ (g : Goal) (f : Tally) (w : List ℕ) (most : f .count ≤ g .cap) {eve
   }
 
 -- other events that are the same
-pub written-same : {g : Goal} {f r : Tally} {before after : List ℕ} {l k : List (Event (List Run))} → l ≡ k → Written g k f r before after → Written g l f r before after
+pub written-same : {g : Goal} {f r : Tally} {before after : List ℕ} {l k : List (Event (List Run))} → l ≡ k
+    → Written g k f r before after → Written g l f r before after
 written-same {g} {f} {r} {before} e h = record {
   taken = h .taken ∙ ap (λ z. absorb (wantedOf (g .head)) (g .cap) z (progressOf (g .entries) f before)) (sym e);
   filled = h .filled;
@@ -155,7 +157,8 @@ module _ (g : Goal) (G : ℕ → List (Event (List Run))) (len : ℕ) (f : Tally
     loop-skip h e = record {
       within = omega arith;
       goes = o .goes;
-      left = ap (absorb (wantedOf (g .head)) (g .cap) later-splits) (sym (none-taken (wantedOf (g .head)) (g .cap) _) ∙ ap (λ l. takes l got slots) (sym e)) ∙ apart h;
+      left = ap (absorb (wantedOf (g .head)) (g .cap) later-splits) (sym (none-taken (wantedOf (g .head)) (g .cap) _) ∙ ap (λ l. takes l got slots) (sym e))
+          ∙ apart h;
       filled = o .filled;
     }
 
@@ -164,10 +167,11 @@ module _ (g : Goal) (G : ℕ → List (Event (List Run))) (len : ℕ) (f : Tally
       taken-here : takes (G k) got slots ≡ progressOf (g .entries) r after
       unfolding statusOf
       taken-here =
+          let so-far = candidatesIn (g .entries) (got .count) slots in
           ap (λ l. takes l got slots) e
-          ∙ ap (λ n. absorb (wantedOf (g .head)) (g .cap) (tried ∷ W) (record { written = candidatesIn (g .entries) (got .count) slots; status = statusOf n })) (o .goes)
-          ∙ tried-taken (wantedOf (g .head)) (g .cap) W (candidatesIn (g .entries) (got .count) slots)
-          ∙ ap (λ n. absorb (wantedOf (g .head)) (g .cap) W (record { written = candidatesIn (g .entries) (got .count) slots; status = statusOf n })) (sym (o .goes))
+          ∙ ap (λ n. absorb (wantedOf (g .head)) (g .cap) (tried ∷ W) (record { written = so-far; status = statusOf n })) (o .goes)
+          ∙ tried-taken (wantedOf (g .head)) (g .cap) W so-far
+          ∙ ap (λ n. absorb (wantedOf (g .head)) (g .cap) W (record { written = so-far; status = statusOf n })) (sym (o .goes))
           ∙ sym (w .taken)
 
       pub loop-into : r .stop ≡ 0 → Looping r after (k + 1)
@@ -186,13 +190,16 @@ module _ (g : Goal) (G : ℕ → List (Event (List Run))) (len : ℕ) (f : Tally
       }
 
   -- n splits from k on, and so all splits from k to before r, have no events
-  loop-skips : (n : ℕ) {got : Tally} {slots : List ℕ} {k : ℕ} → Looping got slots k → k + n ≤ suc len → ((j : ℕ) → k ≤ j → j < k + n → G j ≡ []) → Looping got slots (k + n)
+  loop-skips : (n : ℕ) {got : Tally} {slots : List ℕ} {k : ℕ} → Looping got slots k → k + n ≤ suc len
+      → ((j : ℕ) → k ≤ j → j < k + n → G j ≡ []) → Looping got slots (k + n)
   loop-skips zero {got} {slots} {k} o h none = let z : k ≡ k + 0 = omega arith in subst (Looping got slots) z o
   loop-skips (suc n) {got} {slots} {k} o h none =
       let z : k + 1 + n ≡ k + suc n = omega arith in
-      subst (Looping got slots) z (loop-skips n (loop-skip o (omega arith) (none k (omega arith) (omega arith))) (omega arith) (λ j a b. none j (omega arith) (omega arith)))
+      let skipped = loop-skip o (omega arith) (none k (omega arith) (omega arith)) in
+      subst (Looping got slots) z (loop-skips n skipped (omega arith) (λ j a b. none j (omega arith) (omega arith)))
 
-  pub loop-to : {got : Tally} {slots : List ℕ} {k : ℕ} (r : ℕ) → Looping got slots k → k ≤ r → r ≤ len + 1 → ((j : ℕ) → k ≤ j → j < r → G j ≡ []) → Looping got slots r
+  pub loop-to : {got : Tally} {slots : List ℕ} {k : ℕ} (r : ℕ) → Looping got slots k → k ≤ r → r ≤ len + 1
+      → ((j : ℕ) → k ≤ j → j < r → G j ≡ []) → Looping got slots r
   loop-to {got} {slots} {k} r o low high none =
       let z : k + (r - k) ≡ r = omega arith in
       subst (Looping got slots) z (loop-skips (r - k) o (omega arith) (λ j a b. none j a (omega arith)))

@@ -3,7 +3,7 @@ use mathlib.Core.Path.{_≡_, refl, ap, ap₂, sym, _∙_, subst}
 use mathlib.Core.List.{List, [], _∷_, _++_}
 use mathlib.Core.Bool.{Bool, true, false}
 use lib.ListN.{length, length-append}
-use Prim.Native.Nat.{ℕ, suc, _+_, _-_, _<_, _≤_}
+use Prim.Native.Nat.{ℕ, suc, _+_, _<_, _≤_}
 use native.Mathlib.Omega.{arith}
 use Rattle.term_spec.specs.ListLaws.{All, all-snoc}
 use Rattle.term_spec.specs.WordsLaws.{decode-length}
@@ -15,7 +15,8 @@ use Rattle.steps.specs.Turn.{next, oneSplit, onward}
 use Rattle.steps.specs.Stays.{Sound, Stays, KeepsPlace, Kept}
 use Rattle.steps.specs.TurnLaws.{sound-most}
 use Rattle.steps.specs.ArrayLaws.{entries-fewer, entries-less}
-use Rattle.steps.specs.State.{Place, placeOf, leftOf, frontOf, backOf, giving, stackOf, levelOf, levelsOf, entriesIn, entriesOf, turnAs, LevelRoom, EntryRoom, Known}
+use Rattle.steps.specs.State.{Place, placeOf, leftOf, frontOf, backOf, giving, stackOf, levelOf, levelsOf, entriesIn, entriesOf}
+use Rattle.steps.specs.State.{turnAs, LevelRoom, EntryRoom, Known}
 use Rattle.steps.specs.declared.State.{State}
 use Rattle.steps.specs.declared.What.{What}
 use Rattle.steps.specs.declared.What.the-variants.{Split}
@@ -51,7 +52,9 @@ module _ (v : Given) (p : ℕ) (at : Place) where
   split-not k e = rw e refl
 
   split-into : (k : ℕ) → fitsThere v p at (at .binds) k ≡ true
-      → splitEvents v p at k ≡ tried ∷ walk (readingOf v) (patternFrom v (p + 1)) (backOf k (levelOf at) ∷ stackOf (at .depth) (at .levels)) (entriesOf at ++ (frontOf k (levelOf at) ∷ []))
+      → let ls = backOf k (levelOf at) ∷ stackOf (at .depth) (at .levels) in
+      let env = entriesOf at ++ (frontOf k (levelOf at) ∷ []) in
+      splitEvents v p at k ≡ tried ∷ walk (readingOf v) (patternFrom v (p + 1)) ls env
   unfolding oneSplit when
   split-into k e = rw e refl
 
@@ -86,12 +89,13 @@ split-slots o h = record { room = rw (o .slots-length) (h .room); most = o .loop
 
 -- ---- the loop at a turn that splits: a is the state after the turn, lv and bd the words of its levels and entries ----
 
-module _ {v : Given} {p m : ℕ} {s : Place} {w : What} {a : State} {lv bd : List ℕ} {start len : ℕ} (y : Ready v p m s) (t : TurnTaken v p s w (placeOf a lv bd) start len)
-    (e : w ≡ Split) where
+module _ {v : Given} {p m : ℕ} {s : Place} {w : What} {a : State} {lv bd : List ℕ} {start len : ℕ} (y : Ready v p m s)
+    (t : TurnTaken v p s w (placeOf a lv bd) start len) (e : w ≡ Split) where
   abbrev at : Place
   at = placeOf a lv bd
 
-  place-kept : KeepsPlace (patternFrom v (p + 1)) m (levelOf s) (levelOf at) (stackOf (s .depth) (s .levels)) (stackOf (at .depth) (at .levels)) (entriesOf s) (entriesOf at)
+  place-kept : KeepsPlace (patternFrom v (p + 1)) m (levelOf s) (levelOf at) (stackOf (s .depth) (s .levels)) (stackOf (at .depth) (at .levels))
+      (entriesOf s) (entriesOf at)
   unfolding turnAs Kept
   place-kept = subst (λ z. Kept (v .used) (patternFrom v (p + 1)) m (levelOf s) (stackOf (s .depth) (s .levels)) (entriesOf s) (turnAs z at)) e (t .kept m y)
 
@@ -123,7 +127,8 @@ module _ {v : Given} {p m : ℕ} {s : Place} {w : What} {a : State} {lv bd : Lis
   -- words that show the same entries show those from before the record
   split-same : (binds : List ℕ) → entriesIn (a .bound) binds ≡ entriesOf at → entriesIn (s .bound) binds ≡ entriesOf s
   split-same binds q =
-      let n : s .bound ≡ a .bound = sym (decode-length runLayout (s .bound) (s .binds)) ∙ ap length (sym (place-kept .entries)) ∙ decode-length runLayout (a .bound) bd in
+      let n : s .bound ≡ a .bound =
+      sym (decode-length runLayout (s .bound) (s .binds)) ∙ ap length (sym (place-kept .entries)) ∙ decode-length runLayout (a .bound) bd in
       ap (λ k. entriesIn k binds) n ∙ q ∙ place-kept .entries
 
   -- its splits
@@ -170,7 +175,9 @@ module _ {v : Given} {p m : ℕ} {s : Place} {w : What} {a : State} {lv bd : Lis
           (ap₂ next (sym given-levels) (sym given-entries)) stays-given) rl rb
 
       given-events : splitEvents v p at k ≡ tried ∷ eventsFrom v (p + 1) (placeOf n levels more)
-      given-events = split-into v p at k (o .fits h) ∙ ap₂ (λ ls env. tried ∷ walk (readingOf v) (patternFrom v (p + 1)) ls env) (sym given-levels) (sym given-entries)
+      given-events =
+          split-into v p at k (o .fits h)
+          ∙ ap₂ (λ ls env. tried ∷ walk (readingOf v) (patternFrom v (p + 1)) ls env) (sym given-levels) (sym given-entries)
 
       -- the walk from there is done
       module _ {r : Tally} {after levels-after binds-after : List ℕ}
@@ -189,7 +196,8 @@ module _ {v : Given} {p m : ℕ} {s : Place} {w : What} {a : State} {lv bd : Lis
         }
 
         -- the loop goes on at the next split that fits
-        pub splitting-next : r .stop ≡ 0 → length binds-after ≡ length binds → length after ≡ length slots → {j : ℕ} → FirstFit (fitsThere v p at binds-after) (k + 1) (a .len) j
+        pub splitting-next : r .stop ≡ 0 → length binds-after ≡ length binds → length after ≡ length slots
+            → {j : ℕ} → FirstFit (fitsThere v p at binds-after) (k + 1) (a .len) j
             → Splitting v p g at f before levels-after binds-after after r j
         splitting-next q lb ls x =
             let into = loop-into _ _ _ _ _ (o .loop) h given-events (d .written) q in record {

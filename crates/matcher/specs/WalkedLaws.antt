@@ -20,7 +20,8 @@ use Rattle.steps.specs.TurnLaws.{walk-turn, sound-most, turn-kept, turn-grows}
 use Rattle.steps.specs.StepLaws.{entry-in, coded-many}
 use Rattle.steps.specs.ArrayLaws.{entries-fewer}
 use Rattle.steps.specs.PatternAtLaws.{pattern-at, pattern-end, pattern-item}
-use Rattle.steps.specs.State.{Place, stackOf, levelOf, levelsOf, entriesIn, entriesOf, turnAs, LevelRoom, EntryRoom, Stands, Restores, LevelsKept, EndsApart, renamed, coded, Fine}
+use Rattle.steps.specs.State.{Place, stackOf, levelOf, levelsOf, entriesIn, entriesOf}
+use Rattle.steps.specs.State.{turnAs, LevelRoom, EntryRoom, Stands, Restores, LevelsKept, EndsApart, renamed, coded, Fine}
 use Rattle.steps.specs.declared.What.{What}
 use Rattle.steps.specs.declared.What.the-variants.{Stop, Next, Split, Call}
 use Rattle.matcher.specs.declared.Goal.{Goal}
@@ -31,7 +32,8 @@ use Rattle.matcher.specs.FoldLaws.{written-same}
 
 -- ---- what the record asks of the state ----
 
-fine-by : (k : ℕ) (names : List ℕ) (t : Item) (x : ℕ) (p : List (Element ℕ)) (d b m : ℕ) → m ≤ nameLimit → Sound (renamed x (canonE (elementK k names t)) ∷ p) d b m → Fine k x d b
+fine-by : (k : ℕ) (names : List ℕ) (t : Item) (x : ℕ) (p : List (Element ℕ)) (d b m : ℕ)
+    → m ≤ nameLimit → Sound (renamed x (canonE (elementK k names t)) ∷ p) d b m → Fine k x d b
 unfolding elementK canonE renamed Sound Fine
 fine-by zero names t x p d b m l h = tt
 fine-by (suc zero) names t x p d b m l h = tt
@@ -44,7 +46,8 @@ fine-by (suc (suc (suc (suc (suc (suc zero)))))) names t x p d b m l h = (h .0, 
 fine-by (suc (suc (suc (suc (suc (suc (suc zero))))))) names t x p d b m l h = (h .0, omega (arith, sound-most p d (max b (suc x)) m (h .1)))
 fine-by (suc (suc (suc (suc (suc (suc (suc (suc k)))))))) names t x p d b m l h = tt
 
-pub sound-fine : (names : List ℕ) (t : Item) (x : ℕ) (p : List (Element ℕ)) (d b m : ℕ) → m ≤ nameLimit → Sound (coded names t x ∷ p) d b m → Fine (t .kind) x d b
+pub sound-fine : (names : List ℕ) (t : Item) (x : ℕ) (p : List (Element ℕ)) (d b m : ℕ)
+    → m ≤ nameLimit → Sound (coded names t x ∷ p) d b m → Fine (t .kind) x d b
 unfolding coded element
 sound-fine names t x p d b m l h = fine-by (t .kind) names t x p d b m l h
 
@@ -115,7 +118,8 @@ module _ {v : Given} {p m : ℕ} {s : Place} (y : Ready v p m s) where
 
 -- ---- record p takes its turn ----
 
-module _ (v : Given) (p : ℕ) (s : Place) (lt : p < count itemLayout (v .pattern)) {t : Item} {x : ℕ} (et : t ≡ recordAt itemLayout (v .pattern) p) (ex : x ≡ getD (v .numbers) p 0) where
+module _ (v : Given) (p : ℕ) (s : Place) (lt : p < count itemLayout (v .pattern)) {t : Item} {x : ℕ}
+    (et : t ≡ recordAt itemLayout (v .pattern) p) (ex : x ≡ getD (v .numbers) p 0) where
   after : patternFrom v p ≡ coded (v .names) t x ∷ patternFrom v (p + 1)
   after = pattern-at (v .names) (v .pattern) (v .numbers) p lt et ex
 
@@ -136,10 +140,12 @@ module _ (v : Given) (p : ℕ) (s : Place) (lt : p < count itemLayout (v .patter
     apart-none z el =
         ap (λ l. walk (readingOf v) l (levelsOf s) (entriesOf s)) after
         ∙ ap (λ c. walk (readingOf v) (c ∷ patternFrom v (p + 1)) (levelsOf s) (entriesOf s)) (coded-many (v .names) t x (z .many))
-        ∙ known-apart (v .names) (terms-of v) (patternFrom v (p + 1)) x (levelOf s) (stackOf (s .depth) (s .levels)) (entriesOf s) (rw (size-of v) (y .stays .level-in)) (sym el ∙ z .ends)
-        (rw decode-length (z .known)) (rw (size-of v) (entry-in (v .used) (s .bound) (s .binds) x (ready-stands y .known) (z .known) refl)) (z .apart)
+        ∙ known-apart (v .names) (terms-of v) (patternFrom v (p + 1)) x (levelOf s) (stackOf (s .depth) (s .levels)) (entriesOf s)
+        (rw (size-of v) (y .stays .level-in)) (sym el ∙ z .ends) (rw decode-length (z .known))
+        (rw (size-of v) (entry-in (v .used) (s .bound) (s .binds) x (ready-stands y .known) (z .known) refl)) (z .apart)
 
-    pub apart-taken : {last : Bool} → EndsApart (t .kind) x last (s .bound) (s .len) (s .binds) → last ≡ ends (patternFrom v (p + 1)) → TurnTaken v p s Stop s 0 0
+    pub apart-taken : {last : Bool} → EndsApart (t .kind) x last (s .bound) (s .len) (s .binds) → last ≡ ends (patternFrom v (p + 1))
+        → TurnTaken v p s Stop s 0 0
     unfolding turnAs onward Kept Grows
     apart-taken z el = record {
       there = lt;
@@ -155,8 +161,8 @@ module _ (v : Given) (p : ℕ) (s : Place) (lt : p < count itemLayout (v .patter
       (em : turnAs w at ≡ turn (readingOf v) (coded (v .names) t x) last (levelsOf s) (entriesOf s)) where
     kept-turn : (m : ℕ) → Ready v p m s → Kept (v .used) (patternFrom v (p + 1)) m (levelOf s) (stackOf (s .depth) (s .levels)) (entriesOf s) (turnAs w at)
     kept-turn m y =
-        rw em (rw (size-of v) at (turn-kept (v .names) (terms-of v) (valid-terms-of y) (coded (v .names) t x) (patternFrom v (p + 1)) m last (levelOf s) (stackOf (s .depth) (s .levels)) (entriesOf s)
-        (rw (size-of v) (stays-here y))))
+        rw em (rw (size-of v) at (turn-kept (v .names) (terms-of v) (valid-terms-of y) (coded (v .names) t x) (patternFrom v (p + 1)) m last
+        (levelOf s) (stackOf (s .depth) (s .levels)) (entriesOf s) (rw (size-of v) (stays-here y))))
 
     -- the walk is the turn, and then going on
     pub turn-taken : {start len : ℕ} → LevelsKept (s .depth) w (s .levels) (at .levels) → entriesIn (s .bound) (at .binds) ≡ entriesOf s
@@ -179,7 +185,8 @@ module _ (v : Given) (p : ℕ) (s : Place) (lt : p < count itemLayout (v .patter
 
 -- So many levels and entries later.
 pub moved-on : {v : Given} {p m : ℕ} {s g : Place} → Ready v p m s → p < count itemLayout (v .pattern)
-    → Stays (v .used) (patternFrom v (p + 1)) m (levelOf g) (stackOf (g .depth) (g .levels)) (entriesOf g) → LevelRoom (g .levels) → EntryRoom (g .binds) → Ready v (p + 1) m g
+    → Stays (v .used) (patternFrom v (p + 1)) m (levelOf g) (stackOf (g .depth) (g .levels)) (entriesOf g)
+    → LevelRoom (g .levels) → EntryRoom (g .binds) → Ready v (p + 1) m g
 moved-on y lt z rl rb = record {
   store = y .store;
   few = y .few;
@@ -217,7 +224,8 @@ module _ {v : Given} {p : ℕ} {s : Place} {w : What} {at : Place} {start len : 
   pub ready-next : {m : ℕ} → Ready v p m s → w ≡ Next → LevelRoom (at .levels) → EntryRoom (at .binds) → Ready v (p + 1) m at
   unfolding turnAs Kept
   ready-next {m} y e rl rb =
-      moved-on y (k .there) (subst (λ z. Kept (v .used) (patternFrom v (p + 1)) m (levelOf s) (stackOf (s .depth) (s .levels)) (entriesOf s) (turnAs z at)) e (k .kept m y)) rl rb
+      moved-on y (k .there)
+      (subst (λ z. Kept (v .used) (patternFrom v (p + 1)) m (levelOf s) (stackOf (s .depth) (s .levels)) (entriesOf s) (turnAs z at)) e (k .kept m y)) rl rb
 
   -- no entry is lost
   next-grows : w ≡ Next → s .bound ≤ at .bound
@@ -227,7 +235,8 @@ module _ {v : Given} {p : ℕ} {s : Place} {w : What} {at : Place} {start len : 
       omega (arith, decode-length runLayout (s .bound) (s .binds), decode-length runLayout (at .bound) (at .binds))
 
   -- the walk after it is done, and the levels' words are put back
-  pub next-walked : {g : Goal} {f r : Tally} {before after levels binds last : List ℕ} → w ≡ Next → Walked g (eventsFrom v (p + 1) at) f r before after at levels binds
+  pub next-walked : {g : Goal} {f r : Tally} {before after levels binds last : List ℕ} → w ≡ Next
+      → Walked g (eventsFrom v (p + 1) at) f r before after at levels binds
       → last ≡ set (set levels (2 * s .depth) start) (2 * s .depth + 1) len → Walked g (eventsFrom v p s) f r before after s last binds
   next-walked e h q = record {
     written = written-same (turn-next e) (h .written);

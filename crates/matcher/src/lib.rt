@@ -119,7 +119,7 @@ fn take_turn(
 }
 
 // The walk from record p on, with a tally that goes on. It calls itself at the next pattern record, and the split loop is inside. The words of
-// the levels are as they were when it returns, and those of the known entries are.
+// the levels are as they were when it returns, and those of the known entries are. Both are lent as arrays: that is one word less for each to hand on.
 pub fn walk(
     names: &[u8],
     terms: &[u32],
@@ -128,8 +128,8 @@ pub fn walk(
     numbers: &[u32],
     p: usize,
     s: State,
-    levels: &mut [u32],
-    binds: &mut [u32],
+    levels: &mut [u32; steps::LEVEL_WORDS],
+    binds: &mut [u32; steps::ENTRY_WORDS],
     known: &mut [u16],
     g: Goal,
     slots: &mut [u32],

@@ -6,14 +6,14 @@ use borrow.Author.Tests.{eq-eqb, ne-eqb}
 use lib.Dec.{eqb}
 use lib.ListN.{getD, take, drop}
 use lib.Seq.{getD-take, getD-drop, ext-getD}
-use Prim.Native.Nat.{ℕ, suc, zero, _+_, _<_, _≤_}
+use Prim.Native.Nat.{ℕ, suc, zero, _+_, _-_, _<_, _≤_}
 use native.Mathlib.Decide.{ℕ-discrete, decLt}
 use native.Mathlib.Omega.{arith}
 use Rattle.term_spec.specs.ListLaws.{part-length}
 use Rattle.term_spec.specs.ValueLaws.{is-yes, is-no, yes-of, alike}
 use Rattle.value.specs.Equal.{equalAt, equalRuns}
 use Rattle.value.specs.EqualLaws.{runsFrom, runs-all, runs-more, runs-none}
-use Rattle.numbers.specs.Numbers.{formAt, Numbers, Agree}
+use Rattle.numbers.specs.Numbers.{formAt, Numbers, Same, Agree}
 
 -- ---- equality of terms ----
 
@@ -51,20 +51,31 @@ never p q = let z : _≡_ {A = ℕ} 0 1 = cc in absurd (omega arith)
 
 -- ---- runs by their numbers ----
 
+-- More of the numbers that follow are the same.
+pub same-more : (numbers : List ℕ) (s p k m : ℕ) → Same numbers s p k → Same numbers (s + k) (p + k) m → Same numbers s p (k + m)
+same-more numbers s p k m front rest i lt = go (decLt i k)
+  where
+    go : Dec (i < k) → getD numbers (s + i) 0 ≡ getD numbers (p + i) 0
+    go (yes q) = front i q
+    go (no q) =
+        let first : s + k + (i - k) ≡ s + i = omega arith in
+        let second : p + k + (i - k) ≡ p + i = omega arith in
+        rw (first, second) at (rest (i - k) (omega arith))
+
 module _ (names w : List ℕ) (used k : ℕ) (numbers : List ℕ) (known : Numbers names w used k numbers) (inside : k ≤ used)
     (s p n : ℕ) (first : s + n ≤ k) (second : p + n ≤ k) where
-  abbrev Same : ℕ → Type 0
-  Same j = getD numbers (s + j) 0 ≡ getD numbers (p + j) 0
+  abbrev Alike : ℕ → Type 0
+  Alike j = getD numbers (s + j) 0 ≡ getD numbers (p + j) 0
 
-  runs-next : (j : ℕ) → j < n → Same j → runsFrom names w used s n p j ≡ runsFrom names w used s n p (j + 1)
+  runs-next : (j : ℕ) → j < n → Alike j → runsFrom names w used s n p j ≡ runsFrom names w used s n p (j + 1)
   runs-next j lt e =
       runs-more names w used s n p j lt (omega arith) (omega arith) (known .told (s + j) (p + j) (omega arith) (omega arith) ∙ eq-eqb _ _ e)
 
-  runs-differ : (j : ℕ) → j < n → (Same j → ⊥) → runsFrom names w used s n p j ≡ false
+  runs-differ : (j : ℕ) → j < n → (Alike j → ⊥) → runsFrom names w used s n p j ≡ false
   runs-differ j lt e =
       runs-more names w used s n p j lt (omega arith) (omega arith) (known .told (s + j) (p + j) (omega arith) (omega arith) ∙ ne-eqb _ _ e)
 
-  runs-agree : (j : ℕ) → j ≤ n → ((i : ℕ) → i < j → Same i) → runsFrom names w used s n p 0 ≡ runsFrom names w used s n p j
+  runs-agree : (j : ℕ) → j ≤ n → Same numbers s p j → runsFrom names w used s n p 0 ≡ runsFrom names w used s n p j
   runs-agree zero le h = refl
   runs-agree (suc j) le h =
       let f : j + 1 ≡ suc j = omega arith in
@@ -83,11 +94,11 @@ module _ (names w : List ℕ) (used k : ℕ) (numbers : List ℕ) (known : Numbe
 
   -- Equal runs of one length have the same numbers.
   module _ (equal : equalRuns names w used s n p n ≡ true) where
-    same-front : (j : ℕ) → j ≤ n → (i : ℕ) → i < j → Same i
+    same-front : (j : ℕ) → j ≤ n → Same numbers s p j
     same-front zero le i lt = absurd (omega arith)
     same-front (suc j) le i lt = go (same-front j (omega arith)) (decLt i j) (ℕ-discrete (getD numbers (s + j) 0) (getD numbers (p + j) 0))
       where
-        go : ((h : ℕ) → h < j → Same h) → Dec (i < j) → Dec (Same j) → Same i
+        go : Same numbers s p j → Dec (i < j) → Dec (Alike j) → Alike i
         go below (yes q) d = below i q
         go below (no q) (yes e) = let f : i ≡ j = omega arith in rw f e
         go below (no q) (no e) =

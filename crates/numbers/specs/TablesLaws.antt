@@ -20,9 +20,9 @@ use Rattle.numbers.specs.NumbersLaws.{forms-equal, forms-differ, equal-f
 use Rattle.numbers.specs.SameKeyLaws.{key-below, key-set, equal-key}
 
 -- At first no term has its number.
-pub tables-none : (names w : List ℕ) (used : ℕ) (numbers : List ℕ) → TermStore names w used → used ≤ limit → used ≤ length numbers
-    → Tables names w used 0 numbers (replicate buckets 0) (replicate limit 0)
-tables-none names w used numbers store few room = record {
+pub tables-none : (base : ℕ) (names w : List ℕ) (used : ℕ) (numbers : List ℕ) → TermStore names w used → used ≤ limit → used ≤ length numbers
+    → Tables base names w used 0 numbers (replicate buckets 0) (replicate limit 0)
+tables-none base names w used numbers store few room = record {
   store = store;
   few = few;
   room = room;
@@ -31,34 +31,35 @@ tables-none names w used numbers store few room = record {
   low = λ i h. absurd (omega arith);
   first = λ i h. absurd (omega arith);
   known = record { room = omega arith; told = λ i j h. absurd (omega arith) };
-  chains = chains-none (keyAt names w numbers) (Entered numbers) buckets limit;
+  chains = chains-none (keyAt base names w numbers) (Entered numbers) buckets limit;
 }
 
 -- ---- looking for an equal term ----
 
 -- Term k, t, has bucket b.
-module _ {names w : List ℕ} {used k : ℕ} {numbers heads earlier : List ℕ} (tables : Tables names w used k numbers heads earlier)
-    {b : ℕ} {t : Term} (key : b ≡ keyOf names numbers t) (read : t ≡ recordAt termLayout w k) where
+module _ {base : ℕ} {names w : List ℕ} {used k : ℕ} {numbers heads earlier : List ℕ} (tables : Tables base names w used k numbers heads earlier)
+    {b : ℕ} {t : Term} (key : b ≡ keyOf base names numbers t) (read : t ≡ recordAt termLayout w k) where
   pub key-room : b < length heads
-  key-room = omega (arith, key-below names numbers t, tables .heads-room)
+  key-room = omega (arith, key-below base names numbers t, tables .heads-room)
 
-  pub key-here : b ≡ keyAt names w numbers k
-  key-here = key ∙ ap (keyOf names numbers) read
+  pub key-here : b ≡ keyAt base names w numbers k
+  key-here = key ∙ ap (keyOf base names numbers) read
 
   -- The search starts at its head.
-  pub searched-head : {from : ℕ} → k < used → from ≡ getD heads b 0 → Searched names w used numbers heads earlier k from
+  pub searched-head : {from : ℕ} → k < used → from ≡ getD heads b 0 → Searched base names w used numbers heads earlier k from
   searched-head inside head = record {
     tables = tables;
     below = inside;
     sought =
-        sought-head (tables .chains) (λ i lt x same. equal-key names w used (tables .store) numbers i k lt inside (tables .known) same)
+        sought-head (tables .chains) (λ i lt x same. equal-key base names w used (tables .store) numbers i k lt inside (tables .known) same)
         (head ∙ ap (λ z. getD heads z 0) key-here);
   }
 
-module _ {names w : List ℕ} {used : ℕ} {numbers heads earlier : List ℕ} {k at : ℕ} (here : Searched names w used numbers heads earlier k at) where
+module _ {base : ℕ} {names w : List ℕ} {used : ℕ} {numbers heads earlier : List ℕ} {k at : ℕ}
+    (here : Searched base names w used numbers heads earlier k at) where
   module _ (more : at ≡ 0 → ⊥) {b : Bool} (told : b ≡ equalAt names w used (at - 1) k) where
     -- The place was not it: the next one of the chain.
-    pub searched-next : b ≡ false → Searched names w used numbers heads earlier k (getD earlier (at - 1) 0)
+    pub searched-next : b ≡ false → Searched base names w used numbers heads earlier k (getD earlier (at - 1) 0)
     searched-next other = record {
       tables = here .tables;
       below = here .below;
@@ -94,7 +95,8 @@ placed-found names w used numbers k (suc c) h n =
 
 -- ---- one term more ----
 
-module _ {names w : List ℕ} {used k : ℕ} {numbers heads earlier : List ℕ} (was : Tables names w used k numbers heads earlier) (inside : k < used) where
+module _ {base : ℕ} {names w : List ℕ} {used k : ℕ} {numbers heads earlier : List ℕ}
+    (was : Tables base names w used k numbers heads earlier) (inside : k < used) where
   module _ (r : ℕ) where
     abbrev new : List ℕ
     new = set numbers k r
@@ -105,9 +107,9 @@ module _ {names w : List ℕ} {used k : ℕ} {numbers heads earlier : List ℕ} 
     number-here : getD new k 0 ≡ r
     number-here = let h = was .room in getD-set-same numbers k r 0 (omega arith)
 
-    moved : Chains (keyAt names w new) (Entered new) k heads earlier
+    moved : Chains (keyAt base names w new) (Entered new) k heads earlier
     moved =
-        chains-same (was .chains) (λ c lt. sym (key-set names w used (was .store) numbers c k r (omega arith) (omega arith)))
+        chains-same (was .chains) (λ c lt. sym (key-set base names w used (was .store) numbers c k r (omega arith) (omega arith)))
         (λ c lt x. number-low c lt ∙ x) (λ c lt x. sym (number-low c lt) ∙ x)
 
     module _ (le : r ≤ k) (own : Entered new r) (tells : (i : ℕ) → i < k → equalAt names w used i k ≡ eqb (getD numbers i 0) r) where
@@ -135,7 +137,7 @@ module _ {names w : List ℕ} {used k : ℕ} {numbers heads earlier : List ℕ} 
           go (inr e) (inr f) = rw (e, f) (forms-equal names w used k k refl ∙ sym (eq-eqb (getD new k 0) (getD new k 0) refl))
 
       tables-next : {heads′ earlier′ : List ℕ} → length heads′ ≡ length heads → length earlier′ ≡ length earlier
-          → Chains (keyAt names w new) (Entered new) (k + 1) heads′ earlier′ → Tables names w used (k + 1) new heads′ earlier′
+          → Chains (keyAt base names w new) (Entered new) (k + 1) heads′ earlier′ → Tables base names w used (k + 1) new heads′ earlier′
       tables-next p q chains =
           let size = length-set numbers k r in
           let h = was .room in
@@ -152,7 +154,7 @@ module _ {names w : List ℕ} {used k : ℕ} {numbers heads earlier : List ℕ} 
           }
 
   -- Term c is equal to it, and is the first that is.
-  pub tables-found : {c : ℕ} → Found names w used numbers k c → Tables names w used (k + 1) (set numbers k c) heads earlier
+  pub tables-found : {c : ℕ} → Found names w used numbers k c → Tables base names w used (k + 1) (set numbers k c) heads earlier
   tables-found {c} found =
       let lt = found .low in
       tables-next c (omega arith) (number-low c c lt ∙ found .own) tells refl refl (chains-passed (moved c) (λ x. out (sym (number-here c) ∙ x)))
@@ -165,7 +167,7 @@ module _ {names w : List ℕ} {used k : ℕ} {numbers heads earlier : List ℕ} 
           equal-right names w used i c k (found .same) ∙ was .known .told i c lt (found .low) ∙ ap (eqb (getD numbers i 0)) (found .own)
 
   -- No term below is equal to it.
-  module _ (none : Placed names w used numbers k 0) (b : ℕ) (key : b ≡ keyAt names w numbers k) where
+  module _ (none : Placed names w used numbers k 0) (b : ℕ) (key : b ≡ keyAt base names w numbers k) where
     alone : (i : ℕ) → i < k → equalAt names w used i k ≡ true → ⊥
     unfolding Placed
     alone i lt e =
@@ -179,12 +181,12 @@ module _ {names w : List ℕ} {used k : ℕ} {numbers heads earlier : List ℕ} 
         let low = was .low i lt in
         forms-differ names w used i k (λ e. alone i lt (forms-equal names w used i k e)) ∙ sym (ne-eqb (getD numbers i 0) k (λ q. omega arith))
 
-    pub tables-entered : Tables names w used (k + 1) (set numbers k k) (set heads b (k + 1)) (set earlier k (getD heads b 0))
+    pub tables-entered : Tables base names w used (k + 1) (set numbers k k) (set heads b (k + 1)) (set earlier k (getD heads b 0))
     tables-entered =
         let few = was .few in
         let rooms = was .heads-room in
         let room = was .earlier-room in
-        let below = key-below names numbers (recordAt termLayout w k) in
+        let below = key-below base names numbers (recordAt termLayout w k) in
         tables-next k (omega arith) (number-here k) tells-none (length-set heads b (k + 1)) (length-set earlier k (getD heads b 0))
-        (chains-entered (moved k) b (key-set names w used (was .store) numbers k k k inside (omega arith) ∙ sym key) (number-here k)
+        (chains-entered (moved k) b (key-set base names w used (was .store) numbers k k k inside (omega arith) ∙ sym key) (number-here k)
         (omega arith) (omega arith))

@@ -21,7 +21,9 @@ use Rattle.numbers.specs.ChainLaws.{below-next, chains-none, chains-passed, cha
 use Rattle.numbers.specs.NumbersLaws.{never}
 use Rattle.match_spec.specs.Pattern.{Binding, bindingLayout, nameAt, find, bindingName, bindingNames, bindingRule, bindingsRule}
 use Rattle.pattern.specs.Records.{bindingsIn, sameName, BindingTexts}
-use Rattle.pattern.specs.Apart.{Told, it-is, it-is-not, EachRight, OneWrong, nameIn, Apart, Repeats, bindingsFrom}
+use Rattle.pattern.specs.declared.apart.Outcome.the-variants.{NoneRepeats, OneRepeats, GivenUp}
+use Rattle.pattern.specs.Apart.{Told, it-is, it-is-not, Tells, none-repeats, one-repeats, given-up}
+use Rattle.pattern.specs.Apart.{EachRight, OneWrong, nameIn, Apart, Repeats, bindingsFrom}
 use Rattle.pattern.specs.Apart.{bucketOf, bucketIn, Entered, NameTables, NameNew}
 use Rattle.pattern.specs.NameLaws.{bindings-length, name-at, find-at, find-before}
 use Rattle.pattern.specs.BindingLaws.{Naming, naming-start, all-named, bad-binding, repeated, named, named-text}
@@ -40,6 +42,16 @@ module _ {P Q : Type 0} where
   pub told-as : {r b : Bool} → Told P Q r → (P → true ≡ b) → (Q → false ≡ b) → r ≡ b
   told-as (it-is h) p q = p h
   told-as (it-is-not h) p q = q h
+
+  module _ {free : Bool} where
+    pub tells-none : Tells P Q free NoneRepeats → P
+    tells-none (none-repeats h) = h
+
+    pub tells-one : Tells P Q free OneRepeats → Q
+    tells-one (one-repeats h) = h
+
+    pub tells-given-up : Tells P Q free GivenUp → free ≡ false
+    tells-given-up (given-up h) = h
 
 -- ---- the rule of all bindings ----
 
@@ -125,29 +137,30 @@ module _ (names w : List ℕ) where
 
 -- ---- buckets of names ----
 
-bucket-below : (names : List ℕ) (o n : ℕ) → bucketOf names o n < buckets
+bucket-below : (base : ℕ) (names : List ℕ) (o n : ℕ) → bucketOf base names o n < buckets
 unfolding bucketOf
-bucket-below names o n = omega arith
+bucket-below base names o n = omega arith
 
 -- Binding k is b, whose bucket is x.
-pub bucket-read : (names w : List ℕ) (k : ℕ) {b : Binding} {x : ℕ} → b ≡ recordAt bindingLayout w k → x ≡ bucketOf names (b .offset) (b .size)
-    → x ≡ bucketIn names w k
-bucket-read names w k read e = rw (← read) e
+pub bucket-read : (base : ℕ) (names w : List ℕ) (k : ℕ) {b : Binding} {x : ℕ} → b ≡ recordAt bindingLayout w k
+    → x ≡ bucketOf base names (b .offset) (b .size) → x ≡ bucketIn base names w k
+bucket-read base names w k read e = rw (← read) e
 
-bucket-same : (names w : List ℕ) (c k : ℕ) → nameIn names w c ≡ nameIn names w k → bucketIn names w c ≡ bucketIn names w k
+bucket-same : (base : ℕ) (names w : List ℕ) (c k : ℕ) → nameIn names w c ≡ nameIn names w k → bucketIn base names w c ≡ bucketIn base names w k
 unfolding bucketOf bindingName nameAt
-bucket-same names w c k e = cc
+bucket-same base names w c k e = cc
 
-pub tables-none : (names w : List ℕ) → BindingTexts names w (bindingsIn w) → NameTables names w 0 (replicate buckets 0) (replicate limit 0)
-tables-none names w texts = record {
+pub tables-none : (base : ℕ) (names w : List ℕ) → BindingTexts names w (bindingsIn w)
+    → NameTables base names w 0 (replicate buckets 0) (replicate limit 0)
+tables-none base names w texts = record {
   texts = texts;
   heads-room = length-replicate {A = ℕ} buckets 0;
   earlier-room = length-replicate {A = ℕ} limit 0;
-  chains = chains-none (bucketIn names w) Entered buckets limit;
+  chains = chains-none (bucketIn base names w) Entered buckets limit;
 }
 
-module _ {names w : List ℕ} {k : ℕ} {heads earlier : List ℕ} (was : NameTables names w k heads earlier) where
-  pub tables-passed : limit ≤ k → NameTables names w (k + 1) heads earlier
+module _ {base : ℕ} {names w : List ℕ} {k : ℕ} {heads earlier : List ℕ} (was : NameTables base names w k heads earlier) where
+  pub tables-passed : limit ≤ k → NameTables base names w (k + 1) heads earlier
   tables-passed h = record {
     texts = was .texts;
     heads-room = was .heads-room;
@@ -156,11 +169,11 @@ module _ {names w : List ℕ} {k : ℕ} {heads earlier : List ℕ} (was : NameTa
   }
 
   -- Binding k has bucket b.
-  module _ {b : ℕ} (key : b ≡ bucketIn names w k) where
+  module _ {b : ℕ} (key : b ≡ bucketIn base names w k) where
     pub bucket-room : b < length heads
-    bucket-room = omega (arith, bucket-below names ((recordAt bindingLayout w k) .offset) ((recordAt bindingLayout w k) .size), was .heads-room)
+    bucket-room = omega (arith, bucket-below base names ((recordAt bindingLayout w k) .offset) ((recordAt bindingLayout w k) .size), was .heads-room)
 
-    pub tables-entered : k < limit → NameTables names w (k + 1) (set heads b (k + 1)) (set earlier k (getD heads b 0))
+    pub tables-entered : k < limit → NameTables base names w (k + 1) (set heads b (k + 1)) (set earlier k (getD heads b 0))
     tables-entered h =
         let room = was .earlier-room in
         record {
@@ -173,14 +186,20 @@ module _ {names w : List ℕ} {k : ℕ} {heads earlier : List ℕ} (was : NameTa
 -- ---- looking for a name ----
 
 -- Looking for binding k's name along the chain of its bucket.
-abbrev pub NameSought : List ℕ → List ℕ → ℕ → List ℕ → List ℕ → ℕ → Type 0
-NameSought names w k heads earlier at =
-    Sought (bucketIn names w) Entered (λ i. nameIn names w i ≡ nameIn names w k) k heads earlier (bucketIn names w k) at
+abbrev pub NameSought : ℕ → List ℕ → List ℕ → ℕ → List ℕ → List ℕ → ℕ → Type 0
+NameSought base names w k heads earlier at =
+    Sought (bucketIn base names w) Entered (λ i. nameIn names w i ≡ nameIn names w k) k heads earlier (bucketIn base names w k) at
 
-pub name-head : {names w : List ℕ} {k : ℕ} {heads earlier : List ℕ} {b at : ℕ} → NameTables names w k heads earlier → b ≡ bucketIn names w k
-    → at ≡ getD heads b 0 → NameSought names w k heads earlier at
-name-head {names} {w} {k} {heads} tables key e =
-    sought-head (tables .chains) (λ i lt x same. bucket-same names w i k same) (e ∙ ap (λ z. getD heads z 0) key)
+pub name-head : {base : ℕ} {names w : List ℕ} {k : ℕ} {heads earlier : List ℕ} {b at : ℕ} → NameTables base names w k heads earlier
+    → b ≡ bucketIn base names w k → at ≡ getD heads b 0 → NameSought base names w k heads earlier at
+name-head {base} {names} {w} {k} {heads} tables key e =
+    sought-head (tables .chains) (λ i lt x same. bucket-same base names w i k same) (e ∙ ap (λ z. getD heads z 0) key)
+
+-- The places looked at are below the limit.
+pub name-low : {key : ℕ → ℕ} {Wanted : ℕ → Type 0} {k : ℕ} {heads earlier : List ℕ} {b at : ℕ} → Sought key Entered Wanted k heads earlier b at
+    → at ≤ limit
+name-low {at = zero} here = omega arith
+name-low {at = suc c} here = here .in-bucket c refl .0
 
 -- Bindings k and j are b and c, whose names were compared.
 module _ (names w : List ℕ) (k j : ℕ) {b c : Binding} (read : b ≡ recordAt bindingLayout w k) (other : c ≡ recordAt bindingLayout w j) {r : Bool}

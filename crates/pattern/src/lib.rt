@@ -1,20 +1,22 @@
 // Patterns and starting bindings in code: their rules (7 and 8), and the numbers of their names. From matcher.rs (`VariableKey`,
 // `Bindings`); records and their rules are the port's.
+mod apart;
+
 use items::Binding;
 use items::Item;
 ghost use mathlib.Core.Path.{_≡_};
 ghost use mathlib.Core.List.{List, [], map};
 ghost use mathlib.Core.Bool.{_&&_};
-ghost use Prim.Native.Nat.{ℕ, _+_, _*_, _<_, _≤_, min};
+ghost use Prim.Native.Nat.{ℕ, _+_, _<_, _≤_, min};
 ghost use lib.Dec.{T, eqb};
 ghost use lib.ListN.{length, take};
 ghost use Rattle.term_spec.specs.Words.{Lies, AtMost, recordAt, decode, records, count};
-ghost use Rattle.term_spec.specs.Term.{limit, runsRule};
+ghost use Rattle.term_spec.specs.Term.{runsRule};
 ghost use Rattle.match_spec.specs.Pattern.{itemLayout, callKind, patternLimit, nameLimit, elements, itemRuleK, patternRule};
 ghost use Rattle.match_spec.specs.Pattern.{bindingLayout, boundRun, bindingNames, namesAfter, nameAt, find, bindingRule, bindingsRule};
 ghost use Rattle.items.specs.Records.{asItem, asBinding};
 ghost use Rattle.pattern.specs.Records.{bindingsIn, numbersOf, variable, sameName, itemName, firstNames, tableAt, BindingTexts, ItemTexts};
-ghost use Rattle.pattern.specs.Apart.{Told, EachRight, OneWrong, bucketOf, bucketIn, NameTables, NameBefore, NameNew, Apart, Repeats};
+ghost use Rattle.pattern.specs.Apart.{Told, EachRight, OneWrong};
 
 // ---- the rule of a pattern (7 BadPattern) ----
 
@@ -231,110 +233,6 @@ fn each_binding_ok(names: &[u8], bindings: &[u32]) -> bool
     true
 }
 
-// ---- many bindings, by the buckets of their names ----
-
-// The bucket of a name, by its text. Names that are one have one bucket.
-fn bucket_of(names: &[u8], o: usize, n: usize) -> usize
-    requires { ⌜ o + n ≤ length (now names) ⌝ }
-    ensures { λ r. ⌜ r ≡ bucketOf (now (names .entry)) o n ⌝ }
-{
-    numbers::digest_lowered(names, o, n) % numbers::BUCKETS
-}
-
-// Whether binding k has the name of one that is entered, which stands in the chain of k's bucket.
-fn name_entered(
-    names: &[u8],
-    bindings: &[u32],
-    heads: &[u32],
-    earlier: &[u16],
-    bucket: usize,
-    k: usize,
-) -> bool
-    requires here { ⌜ (k < bindingsIn (now bindings)) × (bucket ≡ bucketIn (now names) (now bindings) k) ⌝ }
-    requires tables { ⌜ NameTables (now names) (now bindings) k (now heads) (now earlier) ⌝ }
-    ensures { λ r.
-        let text = now (names .entry) in
-        let words = now (bindings .entry) in
-        ⌜ Told (NameBefore text words k) (NameNew text words k) r ⌝ }
-{
-    let b = items::get_binding(bindings, k);
-    let mut at = words::word(heads, bucket);
-    while at != 0 {
-        let c = items::get_binding(bindings, at - 1);
-        if same_name(names, b.kind, b.offset, b.size, c.kind, c.offset, c.size) {
-            return true;
-        }
-        at = numbers::number(earlier, at - 1);
-    }
-    false
-}
-
-// Whether no binding has the name of one before it that is among the first 65,536, with tables that are lent empty. Those are entered.
-fn first_apart_with(names: &[u8], bindings: &[u32], heads: &mut [u32], earlier: &mut [u16]) -> bool
-    requires { ⌜ NameTables (now names) (now bindings) 0 (now heads) (now earlier) ⌝ }
-    ensures { λ r.
-        let text = now (names .entry) in
-        let words = now (bindings .entry) in
-        ⌜ Told (Apart text words limit (bindingsIn words)) (Repeats text words) r ⌝ }
-{
-    let n = bindings.len() / items::BINDING_WIDTH;
-    let mut k = 0;
-    while k < n {
-        let b = items::get_binding(bindings, k);
-        let bucket = bucket_of(names, b.offset, b.size);
-        if name_entered(names, bindings, heads, earlier, bucket, k) {
-            return false;
-        }
-        if k < words::LIMIT {
-            numbers::enter(heads, earlier, bucket, k);
-        }
-        k += 1;
-    }
-    true
-}
-
-// Whether no binding has the name of one before it that is among the first 65,536. The tables take 160 KB of stack. It never calls itself; that it
-// could keeps the compiler from copying it, and its stack, into its callers.
-fn first_apart(names: &[u8], bindings: &[u32]) -> bool
-    requires { ⌜ BindingTexts (now names) (now bindings) (bindingsIn (now bindings)) ⌝ }
-    ensures { λ r.
-        let text = now (names .entry) in
-        let words = now (bindings .entry) in
-        ⌜ Told (Apart text words limit (bindingsIn words)) (Repeats text words) r ⌝ }
-{
-    let mut heads = [0u32; numbers::BUCKETS];
-    let mut earlier = [0u16; words::LIMIT];
-    let apart = first_apart_with(names, bindings, &mut heads, &mut earlier);
-    if bindings.len() < items::BINDING_WIDTH {
-        return apart;
-    }
-    let b = items::get_binding(bindings, 0);
-    if names.len() < b.offset {
-        return first_apart(names, bindings);
-    }
-    apart
-}
-
-// Whether no two bindings have one name. The tables have room for 65,536 of them, so each pass enters as many, and looks for all that follow.
-fn names_apart(names: &[u8], bindings: &[u32]) -> bool
-    requires { ⌜ BindingTexts (now names) (now bindings) (bindingsIn (now bindings)) ⌝ }
-    ensures { λ r.
-        let text = now (names .entry) in
-        let words = now (bindings .entry) in
-        ⌜ Told (Apart text words (bindingsIn words) (bindingsIn words)) (Repeats text words) r ⌝ }
-{
-    let n = bindings.len() / items::BINDING_WIDTH;
-    let mut from = 0;
-    while from < n {
-        let start = from * items::BINDING_WIDTH;
-        if !first_apart(names, &bindings[start..]) {
-            return false;
-        }
-        from += words::LIMIT;
-    }
-    true
-}
-
 // Each binding has a variable's kind and name, and no name is repeated. No table is cleared for few bindings.
 pub fn bindings_ok(names: &[u8], bindings: &[u32]) -> bool
     ensures { λ r. ⌜ r ≡ bindingsRule (now (names .entry)) (records bindingLayout (now (bindings .entry))) [] ⌝ }
@@ -345,7 +243,7 @@ pub fn bindings_ok(names: &[u8], bindings: &[u32]) -> bool
     if !each_binding_ok(names, bindings) {
         return false;
     }
-    names_apart(names, bindings)
+    apart::names_apart(names, bindings)
 }
 
 // ---- the numbers of names ----

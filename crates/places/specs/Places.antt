@@ -1,9 +1,10 @@
 -- The places of a rope's terms: the terms that a node gives over the list of all places of the store. And what the functions that read them
 -- keep in words: a stack of fields, and a table of the nodes that were read.
 use mathlib.Core.Path.{_≡_}
-use mathlib.Core.List.{List, [], _∷_}
+use mathlib.Core.List.{List, []}
 use lib.ListN.{length, getD, set, take, drop}
 use Prim.Native.Nat.{ℕ, suc, zero, _+_, _*_, _/_, _%_, _≤_}
+use Rattle.term_spec.specs.ListLaws.{numbersFrom}
 use Rattle.view_spec.specs.Node.{Node, meaning}
 use Rattle.nodes.specs.NodeStore.{nodesIn, NodeStore, AnyStore, Reaches}
 use Rattle.places.specs.declared.Piece.{Piece}
@@ -13,11 +14,6 @@ use Rattle.places.specs.Rest.{Rest, rest, waiting}
 abbrev pub part : ℕ
 part = 4096
 
--- The n numbers from s on.
-unfoldable pub upFrom : ℕ → ℕ → List ℕ
-upFrom s zero = []
-upFrom s (suc n) = s ∷ upFrom (suc s) n
-
 -- A node of some store has at least n terms after its first `skip`.
 pub record ShowsPart (nodes : List ℕ) (node skip n : ℕ) : Type 0 where
   pub used : ℕ
@@ -26,7 +22,7 @@ pub record ShowsPart (nodes : List ℕ) (node skip n : ℕ) : Type 0 where
 
 -- The places of the n terms of a node after its first `skip`.
 abbrev pub wanted : ℕ → List Node → ℕ → ℕ → ℕ → List ℕ
-wanted terms ns node skip n = take n (drop skip (meaning (upFrom 0 terms) ns node))
+wanted terms ns node skip n = take n (drop skip (meaning (numbersFrom 0 terms) ns node))
 
 -- They are the first n words, and the others are as they were.
 abbrev pub PartRead : List ℕ → ℕ → ℕ → ℕ → List ℕ → List ℕ → Type 0

@@ -8,50 +8,46 @@ use Prim.Native.Nat.{ℕ, suc, zero, _+_, _-_, _≤_, _<_}
 use native.Mathlib.Nat.{add-zero}
 use native.Mathlib.Numerals.{add-one}
 use native.Mathlib.Omega.{arith}
-use Rattle.term_spec.specs.ListLaws.{All, all-take, map-take, map-drop}
+use Rattle.term_spec.specs.ListLaws.{numbersFrom, All, all-take, map-take, map-drop}
 use Rattle.view_spec.specs.Node.{Node, nodeAt, meaning, GoodNodes}
 use Rattle.view_spec.specs.NodeLaws.{NodeAt, node-at, meaning-nil, meaning-cons, meaning-concat}
 use Rattle.places.specs.CopyLaws.{sets-snoc}
-use Rattle.places.specs.Places.{upFrom}
 
 -- ---- numbers from s on ----
 
-pub up-length : (s n : ℕ) → length (upFrom s n) ≡ n
-unfolding upFrom
+pub up-length : (s n : ℕ) → length (numbersFrom s n) ≡ n
 up-length s zero = refl
 up-length s (suc n) = ap suc (up-length (suc s) n)
 
-up-take : (s n k : ℕ) → k ≤ n → take k (upFrom s n) ≡ upFrom s k
-unfolding upFrom
+up-take : (s n k : ℕ) → k ≤ n → take k (numbersFrom s n) ≡ numbersFrom s k
 up-take s n zero h = refl
 up-take s zero (suc k) h = absurd (omega arith)
 up-take s (suc n) (suc k) h = ap (s ∷_) (up-take (suc s) n k (omega arith))
 
-up-drop : (s n a : ℕ) → drop a (upFrom s n) ≡ upFrom (s + a) (n - a)
-unfolding upFrom
+up-drop : (s n a : ℕ) → drop a (numbersFrom s n) ≡ numbersFrom (s + a) (n - a)
 up-drop s n zero = let z : n - zero ≡ n = omega arith in rw (add-zero s, z) refl
 up-drop s zero (suc a) = let z : zero - suc a ≡ zero = omega arith in rw z refl
 up-drop s (suc n) (suc a) =
     let y : suc s + a ≡ s + suc a = omega arith in
     let z : n - a ≡ suc n - suc a = omega arith in
-    up-drop (suc s) n a ∙ ap₂ upFrom y z
+    up-drop (suc s) n a ∙ ap₂ numbersFrom y z
 
 -- A part of them.
-pub up-part : (n a k : ℕ) → a + k ≤ n → take k (drop a (upFrom 0 n)) ≡ upFrom a k
-up-part n a k h = let z : 0 + a ≡ a = omega arith in ap (take k) (up-drop 0 n a) ∙ up-take (0 + a) (n - a) k (omega arith) ∙ ap (λ s. upFrom s k) z
+pub up-part : (n a k : ℕ) → a + k ≤ n → take k (drop a (numbersFrom 0 n)) ≡ numbersFrom a k
+up-part n a k h = let z : 0 + a ≡ a = omega arith in ap (take k) (up-drop 0 n a) ∙ up-take (0 + a) (n - a) k (omega arith) ∙ ap (λ s. numbersFrom s k) z
 
-up-snoc : (s n : ℕ) → upFrom s (suc n) ≡ upFrom s n ++ ((s + n) ∷ [])
-unfolding upFrom
+up-snoc : (s n : ℕ) → numbersFrom s (suc n) ≡ numbersFrom s n ++ ((s + n) ∷ [])
 up-snoc s zero = ap (_∷ []) (sym (add-zero s))
-up-snoc s (suc n) = let z : suc s + n ≡ s + suc n = omega arith in ap (s ∷_) (up-snoc (suc s) n ∙ ap (λ k. upFrom (suc s) n ++ (k ∷ [])) z)
+up-snoc s (suc n) = let z : suc s + n ≡ s + suc n = omega arith in ap (s ∷_) (up-snoc (suc s) n ∙ ap (λ k. numbersFrom (suc s) n ++ (k ∷ [])) z)
 
 -- One number more is set.
-pub up-next : (before after : List ℕ) (to s i : ℕ) → after ≡ sets before to (upFrom s i) → set after (to + i) (s + i) ≡ sets before to (upFrom s (i + 1))
+pub up-next : (before after : List ℕ) (to s i : ℕ) → after ≡ sets before to (numbersFrom s i)
+    → set after (to + i) (s + i) ≡ sets before to (numbersFrom s (i + 1))
 up-next before after to s i e =
     ap (λ w. set w (to + i) (s + i)) e
-    ∙ ap (λ k. set (sets before to (upFrom s i)) (to + k) (s + i)) (sym (up-length s i))
-    ∙ sym (sets-snoc before to (upFrom s i) (s + i))
-    ∙ ap (sets before to) (sym (up-snoc s i) ∙ ap (upFrom s) (sym (add-one i)))
+    ∙ ap (λ k. set (sets before to (numbersFrom s i)) (to + k) (s + i)) (sym (up-length s i))
+    ∙ sym (sets-snoc before to (numbersFrom s i) (s + i))
+    ∙ ap (sets before to) (sym (up-snoc s i) ∙ ap (numbersFrom s) (sym (add-one i)))
 
 -- ---- the terms of a node are those at its places ----
 
@@ -88,19 +84,18 @@ module _ {X Y : Type 0} (f : X → Y) (xs : List X) (ns : List Node) (good : Goo
   meaning-map i lt = map-upto (suc i) i (omega arith) lt
 
 -- A list is its entries at all places.
-all-places : {X : Type 0} (d : X) (front xs : List X) (s : ℕ) → length front ≡ s → map (λ p. getD (front ++ xs) p d) (upFrom s (length xs)) ≡ xs
-unfolding upFrom
+all-places : {X : Type 0} (d : X) (front xs : List X) (s : ℕ) → length front ≡ s → map (λ p. getD (front ++ xs) p d) (numbersFrom s (length xs)) ≡ xs
 all-places d front [] s e = refl
 all-places {X} d front (x ∷ xs) s e =
     let l : length (front ++ (x ∷ [])) ≡ suc s = rw length-append (omega arith) in
     ap₂ _∷_ (getD-at front x xs d s e)
-    (ap (λ w. map (λ p. getD w p d) (upFrom (suc s) (length xs))) (sym (append-snoc front x xs)) ∙ all-places d (front ++ (x ∷ [])) xs (suc s) l)
+    (ap (λ w. map (λ p. getD w p d) (numbersFrom (suc s) (length xs))) (sym (append-snoc front x xs)) ∙ all-places d (front ++ (x ∷ [])) xs (suc s) l)
 
 pub meaning-picked : {X : Type 0} (d : X) (xs : List X) (ns : List Node) (i : ℕ) → GoodNodes (length xs) ns → i < length ns
-    → meaning xs ns i ≡ map (λ p. getD xs p d) (meaning (upFrom 0 (length xs)) ns i)
+    → meaning xs ns i ≡ map (λ p. getD xs p d) (meaning (numbersFrom 0 (length xs)) ns i)
 meaning-picked d xs ns i good lt =
     ap (λ w. meaning w ns i) (sym (all-places d [] xs 0 refl))
-    ∙ meaning-map (λ p. getD xs p d) (upFrom 0 (length xs)) ns (rw up-length good) i lt
+    ∙ meaning-map (λ p. getD xs p d) (numbersFrom 0 (length xs)) ns (rw up-length good) i lt
 
 -- ---- the places lie in the store ----
 
@@ -121,8 +116,8 @@ all-getD P [] d i a h = absurd (omega arith)
 all-getD P (x ∷ l) d zero a h = a .0
 all-getD P (x ∷ l) d (suc i) a h = all-getD P l d i (a .1) (omega arith)
 
-up-below : (s n end : ℕ) → s + n ≤ end → All (_< end) (upFrom s n)
-unfolding upFrom All
+up-below : (s n end : ℕ) → s + n ≤ end → All (_< end) (numbersFrom s n)
+unfolding All
 up-below s zero end h = tt
 up-below s (suc n) end h = (omega arith, up-below (suc s) n end (omega arith))
 
@@ -150,7 +145,7 @@ module _ {X : Type 0} (P : X → Type 0) (xs : List X) (ns : List Node) (good : 
           rw (meaning-concat xs ns i lt m) (all-append P (take b A) C (all-take P b A left) right)
 
 pub places-below : (terms : ℕ) (ns : List Node) (i : ℕ) → GoodNodes terms ns → i < length ns
-    → (j : ℕ) → j < length (meaning (upFrom 0 terms) ns i) → getD (meaning (upFrom 0 terms) ns i) j 0 < terms
+    → (j : ℕ) → j < length (meaning (numbersFrom 0 terms) ns i) → getD (meaning (numbersFrom 0 terms) ns i) j 0 < terms
 places-below terms ns i good lt j h =
-    all-getD (_< terms) (meaning (upFrom 0 terms) ns i) 0 j
-    (all-upto (_< terms) (upFrom 0 terms) ns (rw up-length good) (up-below 0 terms terms (omega arith)) (suc i) i (omega arith) lt) h
+    all-getD (_< terms) (meaning (numbersFrom 0 terms) ns i) 0 j
+    (all-upto (_< terms) (numbersFrom 0 terms) ns (rw up-length good) (up-below 0 terms terms (omega arith)) (suc i) i (omega arith) lt) h

@@ -8,7 +8,7 @@ use lib.Seq.{sets, sets-eq, take-add, take-at, take-all, drop-at, drop-drop, dro
 use Prim.Native.Nat.{ℕ, suc, zero, _+_, _*_, _-_, _≤_, _<_, min}
 use native.Mathlib.Decide.{decLt, ℕ-discrete}
 use native.Mathlib.Omega.{arith}
-use Rattle.term_spec.specs.ListLaws.{All, part-below, part-kept, part-length}
+use Rattle.term_spec.specs.ListLaws.{numbersFrom, All, part-below, part-kept, part-length}
 use Rattle.term_spec.specs.Term.{limit}
 use Rattle.term_spec.specs.WordsLaws.{decode-length}
 use Rattle.view_spec.specs.Node.{Node, Field, consKind, nodeAt, meaning, nodesRule}
@@ -17,7 +17,7 @@ use Rattle.nodes.specs.NodeStore.{nodesIn, NodeStore, Reaches}
 use Rattle.places.specs.Rest.{Rest, rest, waiting, gives, passed, entered}
 use Rattle.places.specs.RestLaws.{none-wait, entered-node, reach-length, cons-at, ready-short, ready-low, ready-concat}
 use Rattle.places.specs.RestLaws.{Comes, Passed, comes-most, comes-part, comes-run, comes-passed, comes-on, comes-entered}
-use Rattle.places.specs.Places.{part, upFrom, wanted, seenUnit, entryOf, entryFrom, entryLen, noted, Before}
+use Rattle.places.specs.Places.{part, wanted, seenUnit, entryOf, entryFrom, entryLen, noted, Before}
 use Rattle.places.specs.PlacesLaws.{up-length, up-part}
 
 -- ---- the table of what was read ----
@@ -35,14 +35,14 @@ noted-inner seen node (suc skip) e z = refl
 abbrev pub Says : ℕ → List Node → List ℕ → List ℕ → ℕ → Type 0
 Says terms ns W seen i =
     let e = getD seen i 0 in
-    take (entryLen e) (drop (entryFrom e) W) ≡ take (entryLen e) (meaning (upFrom 0 terms) ns i)
+    take (entryLen e) (drop (entryFrom e) W) ≡ take (entryLen e) (meaning (numbersFrom 0 terms) ns i)
 
 noted-none : (terms : ℕ) (ns : List Node) (W seen : List ℕ) (i : ℕ) → getD seen i 0 ≡ 0 → Says terms ns W seen i
 noted-none terms ns W seen i e = rw e refl
 
 -- One entry more; where the table has no room for it, it stays as it is.
 noted-all : (terms : ℕ) (ns : List Node) (W seen : List ℕ) (node skip from len : ℕ) → len < seenUnit
-    → take len (drop skip (meaning (upFrom 0 terms) ns node)) ≡ take len (drop from W)
+    → take len (drop skip (meaning (numbersFrom 0 terms) ns node)) ≡ take len (drop from W)
     → ((i : ℕ) → Says terms ns W seen i) → (i : ℕ) → Says terms ns W (noted seen node skip (entryOf from len)) i
 unfolding noted
 noted-all terms ns W seen node (suc skip) from len small e h i = h i
@@ -67,7 +67,7 @@ pub record Reading (terms : ℕ) (ns : List Node) (W : List ℕ) (n : ℕ) (befo
   pub room : n ≤ length before
   pub most : done ≤ n
   pub low : at .node < length ns
-  pub comes : done < n → Comes (upFrom 0 terms) ns W [] done at
+  pub comes : done < n → Comes (numbersFrom 0 terms) ns W [] done at
   pub table : (i : ℕ) → Says terms ns W seen i
   pub words : after ≡ take done W ++ drop done before
 
@@ -77,7 +77,7 @@ pub reading-start : {nodes : List ℕ} {terms used node skip n : ℕ} → NodeSt
     → Reading terms (nodesIn nodes used) (wanted terms (nodesIn nodes used) node skip n) n before (rest node skip n (waiting stack 0)) seen before 0
 unfolding All gives
 reading-start {nodes} {terms} {used} {node} {skip} {n} store reaches {seen = seen} room empty stack =
-    let xs = upFrom 0 terms in
+    let xs = numbersFrom 0 terms in
     let ns = nodesIn nodes used in
     let good : T (nodesRule (length xs) ns) = rw up-length (store .good) in
     let low : node < length ns = rw decode-length (reaches .low) in
@@ -155,7 +155,7 @@ module _ {terms : ℕ} {ns : List Node} {W : List ℕ} {n : ℕ} {before : List 
     room = omega (arith, reading-length w, w .room);
     low = omega (arith, w .low);
     some = w .comes lt .ready .some;
-    short = ready-short (length (upFrom 0 terms)) ns (w .comes lt .good) (w .comes lt .ready);
+    short = ready-short (length (numbersFrom 0 terms)) ns (w .comes lt .good) (w .comes lt .ready);
     most = turn-most;
   }
 
@@ -195,7 +195,7 @@ module _ {terms : ℕ} {ns : List Node} {W : List ℕ} {n : ℕ} {before : List 
   pub turn-copy : {from : ℕ} → Before seen i k m done from → {next : Rest} → next ≡ passed (rest i k m fs) m (rest i k 0 [])
       → {final : List ℕ} → final ≡ sets after done (take m (drop from after)) → Reading terms ns W n before next seen final (done + m)
   turn-copy {from} b en ef =
-      let M = meaning (upFrom 0 terms) ns i in
+      let M = meaning (numbersFrom 0 terms) ns i in
       let len = entryLen (getD seen i 0) in
       let fits : from + m ≤ length (take done W) = omega (arith, front-length w, b .there) in
       let copied : take m (drop from after) ≡ take m (drop from W) =
@@ -210,7 +210,7 @@ module _ {terms : ℕ} {ns : List Node} {W : List ℕ} {n : ℕ} {before : List 
   module _ {h : Node} (is : h ≡ nodeAt ns i) where
     -- its first part is used up
     pub turn-low : h .b ≤ k → h .c < i
-    turn-low q = rw is (ready-low (length (upFrom 0 terms)) ns (w .comes lt .good) (w .comes lt .ready) (rw is at q))
+    turn-low q = rw is (ready-low (length (numbersFrom 0 terms)) ns (w .comes lt .good) (w .comes lt .ready) (rw is at q))
 
     pub turn-on : h .b ≤ k → Reading terms ns W n before (rest (h .c) (k - h .b) m fs) seen after done
     turn-on q = record {
@@ -225,24 +225,24 @@ module _ {terms : ℕ} {ns : List Node} {W : List ℕ} {n : ℕ} {before : List 
 
     -- the run that the piece begins with, j terms of it
     module _ (p : h .kind ≡ consKind) (q : k < h .b) {j : ℕ} (e : j ≡ min m (h .b - k)) where
-      cons : ConsAt (length (upFrom 0 terms)) ns i
-      cons = cons-at (length (upFrom 0 terms)) ns i (rw is at p) (node-at (length (upFrom 0 terms)) ns i (w .comes lt .good) (w .low))
+      cons : ConsAt (length (numbersFrom 0 terms)) ns i
+      cons = cons-at (length (numbersFrom 0 terms)) ns i (rw is at p) (node-at (length (numbersFrom 0 terms)) ns i (w .comes lt .good) (w .low))
 
       pub run-inside : h .a + h .b ≤ terms
       run-inside = rw is (omega (arith, cons .inside-terms, up-length 0 terms))
 
-      pub turn-run : {next : Rest} → next ≡ passed (rest i k m fs) j (rest i k 0 []) → {final : List ℕ} → final ≡ sets after done (upFrom (h .a + k) j)
+      pub turn-run : {next : Rest} → next ≡ passed (rest i k m fs) j (rest i k 0 []) → {final : List ℕ} → final ≡ sets after done (numbersFrom (h .a + k) j)
           → Reading terms ns W n before next seen final (done + j)
       turn-run en ef =
           let s = comes-run (w .comes lt) cons j (rw is at q) (omega arith) (omega (arith, rw is at e)) in
-          let t : take j (drop (h .a + k) (upFrom 0 terms)) ≡ take j (drop done W) = rw is s in
-          let r : upFrom (h .a + k) j ≡ take j (drop done W) = sym (up-part terms (h .a + k) j (omega (arith, run-inside))) ∙ t in
+          let t : take j (drop (h .a + k) (numbersFrom 0 terms)) ≡ take j (drop done W) = rw is s in
+          let r : numbersFrom (h .a + k) j ≡ take j (drop done W) = sym (up-part terms (h .a + k) j (omega (arith, run-inside))) ∙ t in
           turn-read j (omega arith) _ r en ef
 
     -- a Concat: the piece is noted, and taken into the left
     module _ (p : h .kind ≡ consKind → ⊥) (q : k < h .b) where
       concat : ConcatAt ns i
-      concat = ready-concat (length (upFrom 0 terms)) ns (w .comes lt .good) (w .comes lt .ready) (rw is at p)
+      concat = ready-concat (length (numbersFrom 0 terms)) ns (w .comes lt .good) (w .comes lt .ready) (rw is at p)
 
       pub turn-right : h .c < i
       turn-right = rw is (concat .right-low)
@@ -255,7 +255,7 @@ module _ {terms : ℕ} {ns : List Node} {W : List ℕ} {n : ℕ} {before : List 
       pub turn-down : m < seenUnit → {table : List ℕ} → table ≡ noted seen i k (entryOf done m)
           → {next : Rest} → next ≡ entered (rest i k m fs) h → Reading terms ns W n before next table after done
       turn-down small et en =
-          let c : Comes (upFrom 0 terms) ns W [] done (entered (rest i k m fs) h) = rw is (comes-entered (w .comes lt) concat (rw is at q)) in
+          let c : Comes (numbersFrom 0 terms) ns W [] done (entered (rest i k m fs) h) = rw is (comes-entered (w .comes lt) concat (rw is at q)) in
           rw (et, en) (record {
             size = w .size;
             room = w .room;

@@ -7,11 +7,12 @@ ghost use Prim.Native.Nat.{ℕ, _+_, _-_, _<_, _≤_};
 ghost use lib.ListN.{length, getD, take, drop};
 ghost use lib.Seq.{sets};
 ghost use Rattle.term_spec.specs.Term.{limit};
+ghost use Rattle.term_spec.specs.ListLaws.{numbersFrom};
 ghost use Rattle.view_spec.specs.Node.{meaning};
 ghost use Rattle.words.specs.Records.{asNode};
 ghost use Rattle.nodes.specs.NodeStore.{nodesIn, NodeStore, Reaches};
 ghost use Rattle.places.specs.Rest.{passed, entered};
-ghost use Rattle.places.specs.Places.{part, upFrom, ShowsPart, PartRead, restOf, emptied, seenUnit, entryOf, noted, Before};
+ghost use Rattle.places.specs.Places.{part, ShowsPart, PartRead, restOf, emptied, seenUnit, entryOf, noted, Before};
 
 // What is to be read next: `left` terms of a node after its first `skip`, then the fields on a stack of `depth` fields, the last one first.
 struct Piece {
@@ -32,7 +33,7 @@ const SEEN: usize = 65536;
 // The n places from `start` on go to the words from `to` on.
 fn put_run(places: &mut [u32], to: usize, start: usize, n: usize)
     requires { ⌜ (to + n ≤ length (now places)) × (start + n ≤ limit) ⌝ }
-    ensures { λ _. ⌜ now (places .exit) ≡ sets (now (places .entry)) to (upFrom start n) ⌝ }
+    ensures { λ _. ⌜ now (places .exit) ≡ sets (now (places .entry)) to (numbersFrom start n) ⌝ }
 {
     let mut i = 0;
     while i < n {
@@ -204,7 +205,7 @@ pub fn read_places(nodes: &[u32], node: usize, skip: usize, n: usize, places: &m
         ⌜
         (drop n after ≡ drop n before) × (length after ≡ length before)
         × ((used terms : ℕ) → NodeStore words terms used → Reaches words used node (skip + n)
-        → take n after ≡ take n (drop skip (meaning (upFrom 0 terms) (nodesIn words used) node)))
+        → take n after ≡ take n (drop skip (meaning (numbersFrom 0 terms) (nodesIn words used) node)))
         ⌝ }
 {
     let mut seen = [0u32; words::LIMIT];

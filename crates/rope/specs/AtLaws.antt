@@ -2,20 +2,21 @@
 use mathlib.Core.Path.{_≡_, refl, ap, ap₂, sym, _∙_}
 use mathlib.Core.List.{List, [], _∷_, _++_, map-append}
 use lib.ListN.{length, getD, take, drop, length-drop, length-map}
-use lib.Seq.{sets, take-suc, take-take, drop-drop, getD-take, getD-drop, length-take-le}
+use lib.Seq.{sets, take-suc, take-take, drop-drop, length-take-le}
 use Prim.Native.Nat.{ℕ, suc, zero, _+_, _*_, _-_, _≤_, _<_}
 use native.Mathlib.Numerals.{add-one}
 use native.Mathlib.Omega.{arith}
-use Rattle.term_spec.specs.ListLaws.{map-take, map-drop, drop-take, part-below}
+use Rattle.term_spec.specs.ListLaws.{numbersFrom, map-take, map-drop, drop-take, part-below}
 use Rattle.term_spec.specs.Term.{Term, termLayout}
 use Rattle.term_spec.specs.Words.{Lies, decode, recordAt, encode, write}
 use Rattle.term_spec.specs.WordsLaws.{term-lays, term-keeps, decode-length, decode-take, encode-decode, write-length, write-append, write-none}
 use Rattle.view_spec.specs.Node.{meaning}
 use Rattle.nodes.specs.NodeStore.{nodesIn, NodeStore, Reaches}
-use Rattle.places.specs.Places.{upFrom, PartRead, ShowsPart}
-use Rattle.places.specs.PlacesLaws.{up-length, meaning-map, places-below}
+use Rattle.places.specs.Places.{PartRead, ShowsPart}
+use Rattle.places.specs.PlacesLaws.{up-length, meaning-map}
 use Rattle.places.specs.RestLaws.{reach-length}
 use Rattle.rope.specs.Copies.{termsAt}
+use Rattle.rope.specs.PartLaws.{part-at}
 use Rattle.rope.specs.CopiedLaws.{termsIn, shown, Task, words-written, write-below, write-between, part-drop, task-good}
 
 -- ---- the terms at places of a list are copied one by one ----
@@ -90,8 +91,8 @@ used-kept before used i ts {after} h low fits e =
     sym (decode-take termLayout used after fits) ∙ ap (decode termLayout used) same ∙ decode-take termLayout used before (omega arith)
 
 -- The used terms are those at all places.
-decode-places : (w : List ℕ) (s n : ℕ) → decode termLayout n (drop (s * termLayout .width) w) ≡ termsAt w (upFrom s n)
-unfolding decode recordAt upFrom
+decode-places : (w : List ℕ) (s n : ℕ) → decode termLayout n (drop (s * termLayout .width) w) ≡ termsAt w (numbersFrom s n)
+unfolding decode recordAt
 decode-places w s zero = refl
 decode-places w s (suc n) =
     let width = termLayout .width in
@@ -101,22 +102,23 @@ decode-places w s (suc n) =
 module _ {terms : List ℕ} {used : ℕ} {nodes : List ℕ} {nodes-used node len base : ℕ} {before : List ℕ}
     (task : Task terms used nodes nodes-used node len base before) where
   abbrev places : List ℕ
-  places = meaning (upFrom 0 used) (nodesIn nodes nodes-used) node
+  places = meaning (numbersFrom 0 used) (nodesIn nodes nodes-used) node
 
   low : node < length (nodesIn nodes nodes-used)
   low = rw decode-length (task .reaches .low)
 
+  -- the nodes are over the used terms
+  pub task-store : NodeStore nodes used nodes-used
+  task-store = record { fits = task .store .store .fits; few = task .store .store .few; good = task .good }
+
   shown-long : len ≤ length (shown terms used nodes nodes-used node)
   shown-long = omega (arith, reach-length (termsIn terms used) (nodesIn nodes nodes-used) (task-good task) node low, task .reaches .fits)
-
-  places-long : len ≤ length places
-  places-long = omega (arith, reach-length (upFrom 0 used) (nodesIn nodes nodes-used) (rw up-length (task .good)) node low, task .reaches .fits)
 
   -- in any slice that begins with the used terms
   shown-at : (source : List ℕ) → termsIn source used ≡ termsIn terms used → shown terms used nodes nodes-used node ≡ termsAt source places
   shown-at source same =
       ap (λ ts. meaning ts (nodesIn nodes nodes-used) node) (sym same ∙ decode-places source 0 used)
-      ∙ meaning-map (recordAt termLayout source) (upFrom 0 used) (nodesIn nodes nodes-used) (rw up-length (task .good)) node low
+      ∙ meaning-map (recordAt termLayout source) (numbersFrom 0 used) (nodesIn nodes nodes-used) (rw up-length (task .good)) node low
 
   -- where some of them are copied after the used terms, these are as they were
   pub some-kept : {middle : List ℕ} (done : ℕ) → done ≤ len → used ≤ base
@@ -137,32 +139,20 @@ module _ {terms : List ℕ} {used : ℕ} {nodes : List ℕ} {nodes-used node len
       write-between before (shown terms used nodes nodes-used node) base to 0 done len (omega arith) h shown-long (omega (arith, task .room)) (omega arith) x y
 
   module _ (done k : ℕ) (h : done + k ≤ len) where
-    reaches-part : Reaches nodes nodes-used node (done + k)
-    reaches-part = record { low = task .reaches .low; fits = omega (arith, task .reaches .fits) }
+    pub task-reaches : Reaches nodes nodes-used node (done + k)
+    task-reaches = record { low = task .reaches .low; fits = omega (arith, task .reaches .fits) }
 
     pub task-part : ShowsPart nodes node done k
-    task-part = record { used = _; store = task .store; reaches = reaches-part }
+    task-part = record { used = _; store = task .store; reaches = task-reaches }
 
-    module _ (old list : List ℕ) (read : PartRead nodes node done k old list) where
-      at-part : take k list ≡ take k (drop done places)
-      at-part =
-          let store : NodeStore nodes used nodes-used = record { fits = task .store .store .fits; few = task .store .store .few; good = task .good } in
-          read .2 nodes-used used store reaches-part
-
-      pub part-below-used : (i : ℕ) → i < k → getD list i 0 < used
-      part-below-used i lt =
-          let e : getD list i 0 ≡ getD places (done + i) 0 =
-          sym (getD-take k list i 0 lt) ∙ ap (λ l. getD l i 0) at-part ∙ getD-take k (drop done places) i 0 lt ∙ getD-drop done places i 0 in
-          rw e (places-below used (nodesIn nodes nodes-used) node (task .good) low (done + i) (omega (arith, places-long)))
-
-      part-shown : (source : List ℕ) → termsIn source used ≡ termsIn terms used
-          → termsAt source (take k list) ≡ drop done (take (done + k) (shown terms used nodes nodes-used node))
-      part-shown source same =
-          ap (termsAt source) at-part
-          ∙ map-take (recordAt termLayout source) k (drop done places)
-          ∙ ap (take k) (map-drop (recordAt termLayout source) done places)
-          ∙ ap (λ l. take k (drop done l)) (sym (shown-at source same))
-          ∙ part-drop done k (shown terms used nodes nodes-used node)
+    part-shown : (old list : List ℕ) → PartRead nodes node done k old list → (source : List ℕ) → termsIn source used ≡ termsIn terms used
+        → termsAt source (take k list) ≡ drop done (take (done + k) (shown terms used nodes nodes-used node))
+    part-shown old list read source same =
+        ap (termsAt source) (part-at done k task-store task-reaches old list read)
+        ∙ map-take (recordAt termLayout source) k (drop done places)
+        ∙ ap (take k) (map-drop (recordAt termLayout source) done places)
+        ∙ ap (λ l. take k (drop done l)) (sym (shown-at source same))
+        ∙ part-drop done k (shown terms used nodes nodes-used node)
 
 -- ---- a node's terms from `from` on are copied part by part ----
 

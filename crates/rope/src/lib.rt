@@ -361,7 +361,8 @@ fn copy_some_out(terms: &[u32], nodes: &[u32], node: usize, len: usize, work: &m
     len
 }
 
-// The terms of a node after its first `from` and before its first `len` become the records after as many others.
+// The terms of a node after its first `from` and before its first `len` become the records after as many others. It never calls itself; that it
+// could keeps the compiler from copying it, and its stack, into its callers.
 fn copy_rest_out(
     terms: &[u32],
     nodes: &[u32],
@@ -377,6 +378,9 @@ fn copy_rest_out(
         let after = now (work .exit) in
         ⌜ CopiedOut (now (terms .entry)) (now (nodes .entry)) node len from len before after ⌝ }
 {
+    if len < from {
+        copy_rest_out(terms, nodes, node, from, len, work);
+    }
     let mut list = [0u32; places::PART];
     let mut done = from;
     while done < len {
@@ -442,7 +446,8 @@ fn copy_some_after(
     len
 }
 
-// The terms of a node after its first `from` and before its first `len` become the records after the used terms and as many others.
+// The terms of a node after its first `from` and before its first `len` become the records after the used terms and as many others. As above, it
+// never calls itself.
 fn copy_rest_after(
     terms: &mut [u32],
     terms_used: usize,
@@ -459,6 +464,9 @@ fn copy_rest_after(
         let after = now (terms .exit) in
         ⌜ CopiedAfter (now (nodes .entry)) «terms_used» node len from len before after ⌝ }
 {
+    if len < from {
+        copy_rest_after(terms, terms_used, nodes, node, from, len);
+    }
     let mut list = [0u32; places::PART];
     let mut done = from;
     while done < len {

@@ -13,7 +13,8 @@ use Rattle.words.specs.RecordLaws.{run-read}
 use Rattle.steps.specs.State.{stackOf, Restores}
 
 -- Run i is its two words.
-pub run-at : (w : List ℕ) (i : ℕ) {a b : ℕ} → a ≡ getD w (2 * i) 0 → b ≡ getD w (2 * i + 1) 0 → _≡_ {A = Run} (record { start = a; len = b }) (recordAt runLayout w i)
+pub run-at : (w : List ℕ) (i : ℕ) {a b : ℕ} → a ≡ getD w (2 * i) 0 → b ≡ getD w (2 * i + 1) 0
+    → _≡_ {A = Run} (record { start = a; len = b }) (recordAt runLayout w i)
 run-at w i p q =
     let e : 2 * i ≡ i * 2 = omega arith in
     run-read w i (rw e at p) (rw e at q)
@@ -38,7 +39,9 @@ entries-kept : (w : List ℕ) (n i v : ℕ) → 2 * n ≤ i → decode runLayout
 unfolding decode
 entries-kept w zero i v h = refl
 entries-kept w (suc n) i v h =
-    decode-snoc runLayout n (set w i v) ∙ ap₂ (λ x y. x ++ (y ∷ [])) (entries-kept w n i v (omega arith)) (run-kept w n i v (omega arith)) ∙ sym (decode-snoc runLayout n w)
+    decode-snoc runLayout n (set w i v)
+    ∙ ap₂ (λ x y. x ++ (y ∷ [])) (entries-kept w n i v (omega arith)) (run-kept w n i v (omega arith))
+    ∙ sym (decode-snoc runLayout n w)
 
 -- Two words written are a run.
 module _ (w : List ℕ) (i a b : ℕ) (h : 2 * i + 1 < length w) where
@@ -74,7 +77,8 @@ stack-less-run w d h e = let n : d ≡ suc (d - 1) = omega arith in ap (λ n. st
 pub entries-fewer : (v w : List ℕ) (n m : ℕ) → n ≤ m → decode runLayout m v ≡ decode runLayout m w → decode runLayout n v ≡ decode runLayout n w
 entries-fewer v w n m h e = sym (decode-below runLayout m n v h) ∙ ap (take n) e ∙ decode-below runLayout m n w h
 
-pub entries-less : (v w : List ℕ) (n : ℕ) (r : Run) → decode runLayout (n + 1) v ≡ decode runLayout n w ++ (r ∷ []) → decode runLayout n v ≡ decode runLayout n w
+pub entries-less : (v w : List ℕ) (n : ℕ) (r : Run) → decode runLayout (n + 1) v ≡ decode runLayout n w ++ (r ∷ [])
+    → decode runLayout n v ≡ decode runLayout n w
 entries-less v w n r e =
     sym (decode-below runLayout (n + 1) n v (omega arith)) ∙ ap (take n) e ∙ take-at (decode runLayout n w) (r ∷ []) n (decode-length runLayout n w)
 

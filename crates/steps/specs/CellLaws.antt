@@ -52,7 +52,8 @@ pub literal-value : (names : List ℕ) (l t : Term) (below : List Value) → l .
 unfolding equalSymbols
 literal-value names l t below h = go (ℕ-discrete (t .kind) 3)
   where
-    go : Dec (t .kind ≡ 3) → isYes (same? (canon (valueOf names l [])) (canon (valueOf names t []))) ≡ isYes (same? (canon (valueOf names l [])) (canon (valueOf names t below)))
+    go : Dec (t .kind ≡ 3)
+        → isYes (same? (canon (valueOf names l [])) (canon (valueOf names t []))) ≡ isYes (same? (canon (valueOf names l [])) (canon (valueOf names t below)))
     go (yes e) = values-differ names l t [] [] (λ q. omega arith) ∙ sym (values-differ names l t [] below (λ q. omega arith))
     go (no n) = ap (λ v. isYes (same? (canon (valueOf names l [])) (canon v))) (sym (value-whole names t below n))
 
@@ -64,7 +65,8 @@ contents-no (suc (suc zero)) text t below h = refl
 contents-no (suc (suc (suc zero))) text t below h = absurd (h refl)
 contents-no (suc (suc (suc (suc k)))) text t below h = refl
 
-pub contents-yes : (k : ℕ) (text : List ℕ) (t : Term) (below : List Value) → k ≡ 3 → contents (canon (valueK k text t below)) ≡ some (forms (part below (contentsRun t)))
+pub contents-yes : (k : ℕ) (text : List ℕ) (t : Term) (below : List Value) → k ≡ 3
+    → contents (canon (valueK k text t below)) ≡ some (forms (part below (contentsRun t)))
 unfolding valueK
 contents-yes k text t below e = rw (e, canon-bracketed) (contents-bracketed _)
 
@@ -174,12 +176,16 @@ module _ (names w : List ℕ) (used : ℕ) (v r : Run) (within : v .start + v .l
   front-is =
       rw (cells-size names w used v within) (front-shows names (decode termLayout used w) (v .len) r (rw (cells-size names w used r inside) fits))
 
-  same-is : b ≡ isYes (sames? (cellsOf names (decode termLayout used w) v) (cellsOf names (decode termLayout used w) (record { start = r .start; len = v .len })))
+  same-is : b
+      ≡ isYes (sames? (cellsOf names (decode termLayout used w) v) (cellsOf names (decode termLayout used w) (record { start = r .start; len = v .len })))
   unfolding equalRuns cellsOf
   same-is = same
 
-  pub run-begins : b ≡ true → cellsOf names (decode termLayout used w) v ≡ take (length (cellsOf names (decode termLayout used w) v)) (cellsOf names (decode termLayout used w) r)
+  pub run-begins : b ≡ true
+      → cellsOf names (decode termLayout used w) v ≡ take (length (cellsOf names (decode termLayout used w) v)) (cellsOf names (decode termLayout used w) r)
   run-begins d = yes-of _ (sym same-is ∙ d) ∙ front-is
 
-  pub run-differs : b ≡ false → cellsOf names (decode termLayout used w) v ≡ take (length (cellsOf names (decode termLayout used w) v)) (cellsOf names (decode termLayout used w) r) → ⊥
+  pub run-differs : b ≡ false
+      → cellsOf names (decode termLayout used w) v ≡ take (length (cellsOf names (decode termLayout used w) v)) (cellsOf names (decode termLayout used w) r)
+      → ⊥
   run-differs d e = no-so _ (sym same-is ∙ d) (e ∙ sym front-is)

@@ -15,7 +15,7 @@ use Rattle.term_spec.specs.Words.{decode, recordAt, records, count}
 use Rattle.term_spec.specs.WordsLaws.{decode-at, decode-length}
 use Rattle.term_spec.specs.Term.{Term, Run, noRun, termLayout, noTerm, contentsRun, termRuleK}
 use Rattle.term_spec.specs.Value.{Single, symbol, term, row, valueK, valueOf, canon, sames?}
-use Rattle.match_spec.specs.Element.{Element, lit, opening, closing, call, one, many, canonE, Level}
+use Rattle.match_spec.specs.Element.{Element, lit, opening, closing, call, one, many, canonE}
 use Rattle.match_spec.specs.Pattern.{Item, noItem, itemLayout, element, elementK, itemRuleK}
 use Rattle.match_spec.specs.Walk.{Reading, cellsOf, runs, strip, ends}
 use Rattle.match_spec.specs.RunLaws.{Inside}
@@ -28,7 +28,8 @@ use Rattle.steps.specs.declared.Turned.{Turned}
 use Rattle.steps.specs.declared.What.the-variants.{Stop, Next}
 use Rattle.steps.specs.Turn.{Turn, stop, next, split, called, turnIf, turnEnter, turnLeave, turnBind, turnSpread, turnTop, turn}
 use Rattle.steps.specs.declared.What.{What}
-use Rattle.steps.specs.State.{cellsIn, backOf, stackOf, placeOf, levelsOf, entriesOf, entriesIn, turnAs, turnOf, Known, Place, Stands, LevelsKept, EndsApart, renamed, coded, codedAll, Fine}
+use Rattle.steps.specs.State.{cellsIn, backOf, stackOf, placeOf, levelsOf, entriesOf, entriesIn, turnAs, turnOf, Known, Place, Stands, LevelsKept}
+use Rattle.steps.specs.State.{EndsApart, renamed, coded, codedAll, Fine}
 use Rattle.steps.specs.ArrayLaws.{restores-same, restores-two}
 use Rattle.steps.specs.CellLaws.{if-yes, if-no, literal-value, enter-no, enter-yes, takes-record, cells-size, first-none, first-some, empty-yes, empty-no}
 use Rattle.steps.specs.CellLaws.{begins-yes, begins-no, begins-long, run-begins, run-differs}
@@ -43,8 +44,8 @@ pub stopped : (m : Turned) (s : State) (lv bd : List ℕ) → m ≡ record { wha
 unfolding turnAs
 stopped m s lv bd e = rw e refl
 
-pub went : (m : Turned) (s : State) (lv bd : List ℕ) {ls env : List Run} → m ≡ record { what = Next; state = s } → levelsOf (placeOf s lv bd) ≡ ls → entriesOf (placeOf s lv bd) ≡ env
-    → turnOf m lv bd ≡ next ls env
+pub went : (m : Turned) (s : State) (lv bd : List ℕ) {ls env : List Run} → m ≡ record { what = Next; state = s }
+    → levelsOf (placeOf s lv bd) ≡ ls → entriesOf (placeOf s lv bd) ≡ env → turnOf m lv bd ≡ next ls env
 unfolding turnAs
 went m s lv bd e p q = rw e (ap₂ next p q)
 
@@ -56,7 +57,9 @@ module _ (m : Turned) (s g : State) (lv : List ℕ) (k : ℕ) (e : m ≡ record 
 
   pub gave : (bd after : List ℕ) → g ≡ record { start = s .start + k; len = s .len - k; depth = s .depth; bound = s .bound + 1 }
       → entriesIn (s .bound + 1) after ≡ entriesIn (s .bound) bd ++ (record { start = s .start; len = k } ∷ [])
-      → turnOf m lv after ≡ next (backOf k (record { start = s .start; len = s .len }) ∷ stackOf (s .depth) lv) (entriesIn (s .bound) bd ++ (record { start = s .start; len = k } ∷ []))
+      → turnOf m lv after
+      ≡ next (backOf k (record { start = s .start; len = s .len }) ∷ stackOf (s .depth) lv)
+      (entriesIn (s .bound) bd ++ (record { start = s .start; len = k } ∷ []))
   gave bd after p q = went m g lv after e (ap (λ z. levelsOf (placeOf z lv after)) p) (ap (λ z. entriesOf (placeOf z lv after)) p ∙ q)
 
 -- ---- entries ----
@@ -67,7 +70,8 @@ all-getD [] used n a h = absurd (omega arith)
 all-getD (x ∷ l) used zero a h = a .0
 all-getD (x ∷ l) used (suc n) a h = all-getD l used n (a .1) (omega arith)
 
-pub entry-in : (used n : ℕ) (w : List ℕ) (x : ℕ) {a b : ℕ} → Known used n w → x < n → record { start = a; len = b } ≡ getD (entriesIn n w) x noRun → a + b ≤ used
+pub entry-in : (used n : ℕ) (w : List ℕ) (x : ℕ) {a b : ℕ} → Known used n w → x < n
+    → record { start = a; len = b } ≡ getD (entriesIn n w) x noRun → a + b ≤ used
 entry-in used n w x h lt e =
     subst (λ (z : Run). Inside used z) (sym e) (all-getD (entriesIn n w) used x (h .entries-in) (rw decode-length lt))
 
@@ -193,7 +197,8 @@ unfolding turnBind
 bind-known rd n x st env (yes k) h = refl
 bind-known rd n x st env (no k) h = absurd (k h)
 
-bind-new : {R : Type 0} (rd : Reading R) (n : ℕ) (x : R) (st env : List R) (d : Dec (n < length env)) → length env ≤ n → turnBind rd n x st env d ≡ next st (env ++ (x ∷ []))
+bind-new : {R : Type 0} (rd : Reading R) (n : ℕ) (x : R) (st env : List R) (d : Dec (n < length env)) → length env ≤ n
+    → turnBind rd n x st env d ≡ next st (env ++ (x ∷ []))
 unfolding turnBind
 bind-new rd n x st env (yes k) h = absurd (omega arith)
 bind-new rd n x st env (no k) h = refl
@@ -224,7 +229,8 @@ module _ (names w : List ℕ) (used : ℕ) (t : Item) (x : ℕ) (last : Bool) (r
           ≡ turnIn names w used (coded names t x) last (r ∷ st) env
       single-new n = sym (single-taken ∙ bind-new _ x _ _ env _ n)
 
-      module _ (v : Run) (known : x < length env) (entry : v ≡ getD env x noRun) {c : Bool} (same : c ≡ equalRuns names w used (v .start) (v .len) (r .start) 1) where
+      module _ (v : Run) (known : x < length env) (entry : v ≡ getD env x noRun) {c : Bool}
+          (same : c ≡ equalRuns names w used (v .start) (v .len) (r .start) 1) where
         single-known : turnIn names w used (coded names t x) last (r ∷ st) env
             ≡ turnIf (sames? (cellsIn names w used v) (cellsIn names w used (record { start = r .start; len = 1 })))
             (next (backOf 1 r ∷ st) env)
@@ -241,7 +247,8 @@ module _ (names w : List ℕ) (used : ℕ) (t : Item) (x : ℕ) (last : Bool) (r
 -- ---- e-variables ----
 
 module _ {R P : Type 0} (rd : Reading R) (x : R) (env : List R) (r : R) (st : List R) where
-  spread-known : (d : Dec P) (last : Bool) → P → turnSpread rd d last x env r st ≡ turnEnter (strip (rd .cells x) (rd .cells r)) (next (rd .back (length (rd .cells x)) r ∷ st) env)
+  spread-known : (d : Dec P) (last : Bool) → P
+      → turnSpread rd d last x env r st ≡ turnEnter (strip (rd .cells x) (rd .cells r)) (next (rd .back (length (rd .cells x)) r ∷ st) env)
   unfolding turnSpread
   spread-known (yes k) last h = refl
   spread-known (no k) last h = absurd (k h)
@@ -257,7 +264,8 @@ module _ {R P : Type 0} (rd : Reading R) (x : R) (env : List R) (r : R) (st : Li
   spread-open (no k) h = refl
 
 module _ (names w : List ℕ) (used x : ℕ) (r : Run) (st env : List Run) (inside : r .start + r .len ≤ used) where
-  pub many-last : {last : Bool} → last ≡ true → length env ≤ x → next (backOf (r .len) r ∷ st) (env ++ (r ∷ [])) ≡ turnIn names w used (many x) last (r ∷ st) env
+  pub many-last : {last : Bool} → last ≡ true → length env ≤ x
+      → next (backOf (r .len) r ∷ st) (env ++ (r ∷ [])) ≡ turnIn names w used (many x) last (r ∷ st) env
   unfolding turn turnTop
   many-last e n =
       let l : length (cellsIn names w used r) ≡ r .len = cells-size names w used r inside in
@@ -384,9 +392,12 @@ ends-first names t l xs = ends-kind (t .kind) names t _ _
 module _ (w : List ℕ) (p : ℕ) (names numbers : List ℕ) where
   pub ends-past : length w / 4 ≤ p → true ≡ ends (drop p (codedAll names (records itemLayout w) numbers))
   unfolding records count codedAll ends
-  ends-past h = let (ys, e) = coded-drop p names (decode itemLayout (length w / 4) w) numbers in rw (e, drop-of-length-le (decode itemLayout (length w / 4) w) {i = p} (rw decode-length h)) refl
+  ends-past h =
+      let (ys, e) = coded-drop p names (decode itemLayout (length w / 4) w) numbers in
+      rw (e, drop-of-length-le (decode itemLayout (length w / 4) w) {i = p} (rw decode-length h)) refl
 
-  pub ends-record : p < length w / 4 → (t : Item) → t ≡ recordAt itemLayout w p → eqb (t .kind) 4 ≡ ends (drop p (codedAll names (records itemLayout w) numbers))
+  pub ends-record : p < length w / 4 → (t : Item) → t ≡ recordAt itemLayout w p
+      → eqb (t .kind) 4 ≡ ends (drop p (codedAll names (records itemLayout w) numbers))
   unfolding records count
   ends-record h t e =
       let (ys, q) = coded-drop p names (decode itemLayout (length w / 4) w) numbers in

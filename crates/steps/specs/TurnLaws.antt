@@ -15,10 +15,12 @@ use Rattle.term_spec.specs.TermLaws.{Valid}
 use Rattle.term_spec.specs.Value.{Value, contents, same?, sames?, takes?}
 use Rattle.match_spec.specs.Element.{Element, lit, opening, closing, call, one, many, Level}
 use Rattle.match_spec.specs.Listing.{guard, enter}
-use Rattle.match_spec.specs.Walk.{Event, reached, Reading, runs, cellsOf, strip, ends, withHead, takeFirst, ifEmpty, leaveLevel, bindRun, topLevel, spread, walk}
+use Rattle.match_spec.specs.Walk.{Event, reached, Reading, runs, cellsOf, strip, ends, withHead, takeFirst, ifEmpty, leaveLevel, bindRun, topLevel, spread}
+use Rattle.match_spec.specs.Walk.{walk}
 use Rattle.match_spec.specs.WalkLaws.{strip-sound}
 use Rattle.match_spec.specs.RunLaws.{Inside, inner-inside, cells-few}
-use Rattle.steps.specs.Turn.{Turn, stop, next, split, called, turnIf, turnEnter, turnHead, turnEmpty, turnFirst, turnLeave, turnBind, turnSpread, turnTop, turn, oneSplit, onward}
+use Rattle.steps.specs.Turn.{Turn, stop, next, called, turnIf, turnEnter, turnHead, turnEmpty, turnFirst, turnLeave, turnBind, turnSpread, turnTop}
+use Rattle.steps.specs.Turn.{turn, oneSplit, onward}
 use Rattle.steps.specs.Stays.{Sound, Stays, Kept, Grows}
 
 -- ---- one turn, and then going on ----
@@ -42,7 +44,8 @@ module _ {R : Type 0} (rd : Reading R) (p : List (Element ℕ)) where
   on-enter none l t e = sym on-stop
   on-enter (some z) l t e = e
 
-  on-head : (c : Level) (f : Value → List (Event (List R))) (g : Value → Turn R) → ((v : Value) → f v ≡ onward rd p (g v)) → withHead c f ≡ onward rd p (turnHead c g)
+  on-head : (c : Level) (f : Value → List (Event (List R))) (g : Value → Turn R) → ((v : Value) → f v ≡ onward rd p (g v))
+      → withHead c f ≡ onward rd p (turnHead c g)
   unfolding withHead turnHead
   on-head [] f g h = sym on-stop
   on-head (v ∷ c) f g h = h v
@@ -139,7 +142,8 @@ module _ (names : List ℕ) (ts : List Term) (valid : Valid ts) (p : List (Eleme
   kept-head (v ∷ c) f k = k v c refl
 
   kept-first : (f : Value → Run → List Run → Turn Run)
-      → ((v : Value) (l : Level) → cellsOf names ts r ≡ v ∷ l → K (f v r (record { start = r .start + 1; len = r .len - 1 } ∷ st))) → K (turnFirst rd (r ∷ st) f)
+      → ((v : Value) (l : Level) → cellsOf names ts r ≡ v ∷ l → K (f v r (record { start = r .start + 1; len = r .len - 1 } ∷ st)))
+      → K (turnFirst rd (r ∷ st) f)
   unfolding turnFirst
   kept-first f k = kept-head (cellsOf names ts r) _ k
 
@@ -187,7 +191,9 @@ module _ (names : List ℕ) (ts : List Term) (valid : Valid ts) (p : List (Eleme
           shallow = few;
           sound = rw z at s;
         }
-    kept-spread n le s false x (no lt) = let z : max (length env) (suc n) ≡ suc (length env) = omega arith in record { level = refl; around = refl; entries = refl; sound = rw z at s }
+    kept-spread n le s false x (no lt) =
+        let z : max (length env) (suc n) ≡ suc (length env) = omega arith in
+        record { level = refl; around = refl; entries = refl; sound = rw z at s }
 
     -- the level ends
     kept-leave : (us : List Run) → All (Inside (length ts)) us → length us ≤ 32 → Sound (closing ∷ p) (length us) (length env) m → K (turnLeave rd (r ∷ us) env)
@@ -205,7 +211,8 @@ unfolding turn Sound turnTop Kept All
 turn-kept names ts valid (lit v) p m last r st env s =
     kept-first names ts valid p m r st env _ (λ w l e. kept-if names ts valid p m r st env (same? v w) _
     (kept-next names ts valid p m r st env _ _ _ (record {
-      level-in = passed-in names ts valid p m r st env (s .level-in) (s .around-in) (s .entries-in) (s .shallow) 1 (some-left names ts valid p m r st env w l e);
+      level-in = passed-in names ts valid p m r st env (s .level-in) (s .around-in) (s .entries-in) (s .shallow) 1
+          (some-left names ts valid p m r st env w l e);
       around-in = s .around-in;
       entries-in = s .entries-in;
       shallow = s .shallow;
@@ -215,19 +222,24 @@ turn-kept names ts valid opening p m last r st env s =
     kept-first names ts valid p m r st env _ (λ w l e. kept-enter names ts valid p m r st env (contents w) _ (λ z q.
     kept-next names ts valid p m r st env _ _ _ (record {
       level-in = inner-inside names ts valid r z l (e ∙ ap (_∷ l) (bracketed-contents w z q));
-      around-in = (passed-in names ts valid p m r st env (s .level-in) (s .around-in) (s .entries-in) (s .shallow) 1 (some-left names ts valid p m r st env w l e), s .around-in);
+      around-in = (
+        passed-in names ts valid p m r st env (s .level-in) (s .around-in) (s .entries-in) (s .shallow) 1 (some-left names ts valid p m r st env w l e),
+        s .around-in,
+      );
       entries-in = s .entries-in;
       shallow = s .sound .0;
       sound = s .sound .1;
     })))
-turn-kept names ts valid closing p m last r st env s = kept-leave names ts valid p m r st env (s .level-in) (s .around-in) (s .entries-in) (s .shallow) st (s .around-in) (s .shallow) (s .sound)
+turn-kept names ts valid closing p m last r st env s =
+    kept-leave names ts valid p m r st env (s .level-in) (s .around-in) (s .entries-in) (s .shallow) st (s .around-in) (s .shallow) (s .sound)
 turn-kept names ts valid call p m last r st env s = tt
 turn-kept names ts valid (one k n) p m last r st env s =
     kept-first names ts valid p m r st env _ (λ w l e. kept-if names ts valid p m r st env (takes? k w) _
     (kept-bind names ts valid p m r st env (s .level-in) (s .around-in) (s .entries-in) (s .shallow) n (s .sound .0) (s .sound .1)
     (some-left names ts valid p m r st env w l e) (decLt n (length env))))
 turn-kept names ts valid (many n) p m last r st env s =
-    kept-spread names ts valid p m r st env (s .level-in) (s .around-in) (s .entries-in) (s .shallow) n (s .sound .0) (s .sound .1) last _ (decLt n (length env))
+    kept-spread names ts valid p m r st env (s .level-in) (s .around-in) (s .entries-in) (s .shallow) n (s .sound .0) (s .sound .1)
+    last _ (decLt n (length env))
 
 -- ---- entries are only added ----
 
@@ -259,7 +271,8 @@ module _ {R : Type 0} (rd : Reading R) (env : List R) where
   grows-head [] f k = grows-stop
   grows-head (v ∷ c) f k = k v
 
-  grows-first : (ls : List R) (f : Value → R → List R → Turn R) → ((v : Value) (r : R) (st : List R) → Grows (length env) (f v r st)) → Grows (length env) (turnFirst rd ls f)
+  grows-first : (ls : List R) (f : Value → R → List R → Turn R) → ((v : Value) (r : R) (st : List R) → Grows (length env) (f v r st))
+      → Grows (length env) (turnFirst rd ls f)
   unfolding turnFirst
   grows-first [] f k = grows-stop
   grows-first (r ∷ st) f k = grows-head (rd .cells r) _ (λ v. k v r (rd .back 1 r ∷ st))

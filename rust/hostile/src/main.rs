@@ -4,6 +4,7 @@
 //! Every call first checks all used records, in linear time. So what a call takes is told as a multiple of these checks, measured alone on the
 //! same store: a number that hardly depends on the machine.
 mod brackets;
+mod floods;
 mod measure;
 mod names;
 #[rustfmt::skip]

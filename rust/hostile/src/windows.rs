@@ -17,7 +17,7 @@ fn windows(store: &mut Store, text: Run, count: usize) -> Run {
 }
 
 /// Two texts, and a bracket over all windows of each: those are compared.
-fn compared(size: usize, texts: [impl Fn(usize) -> TermWords; 2], yes: bool) -> Case {
+pub fn compared(size: usize, texts: [impl Fn(usize) -> TermWords; 2], yes: bool) -> Case {
     compared_in(Store::new(NAMES), size, texts, yes)
 }
 

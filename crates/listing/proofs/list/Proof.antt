@@ -8,7 +8,7 @@ use Rattle.view.specs.Check.{asField}
 use Rattle.view_read.specs.Read.{settledOf}
 use Rattle.listing.specs.Match.{matchedOf, requestOf}
 use Rattle.listing.specs.RefusalLaws.{within-8}
-use Rattle.listing.specs.ListLaws.{settled-from, room-terms, ready-start, slots-start, exit-refused, exit-start, exit-names, exit-full, exit-done}
+use Rattle.listing.specs.ListLaws.{settled-from, start-inside, ready-start, slots-start, exit-refused, exit-start, exit-names, exit-full, exit-done}
 use Rattle.listing.proofs.list.Statement.{statement}
 use Rattle.listing.proofs.list.Tie as tie
 
@@ -55,7 +55,7 @@ walk-from-requires c κs =
     y (at-names .number-names .ensures .0) (at-names .number-names .ensures .1) (at-few .if3 .left)
     (omega (arith, at-names .number-names .kept .1 .1 .1 .0, length-replicate {A = ℕ} 256 0))
     (at-settle .settle .ensures _ (y .store) (record { low = y .low; fits = y .within })) (ap settledOf (at-run .run .given .1)) in record {
-      few-terms = room-terms _ request _ _ _ _ _ settled .0;
+      inside = start-inside _ request _ _ _ _ _ settled;
       few = search needs;
       ready = ready-start _ request _ _ _ _ _ settled (a .slots .now);
       open-slots = rw (at-cap .slots-in .ensures) (slots-start _ request _ _ _ _ _ settled (a .slots .now) (a .head));

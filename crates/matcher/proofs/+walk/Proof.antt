@@ -83,19 +83,19 @@ module _ (t : ℕ) where
   AtWalk = walk-lts.After-walk2 (R t) (walk-at t) walk.Post Inv-loop μ-loop
 
   abbrev begin : AtRecord → Start
-  begin c = c .before .before .before .before .before .before .before .before .before
+  begin c = c .before .before .before .before .before .before .before
 
   abbrev record-of : AtTurn → AtRecord
   record-of c = c .before .before .before .before
 
   abbrev turn-of : AtMatch → AtTurn
-  turn-of c = c .before .before .before .before .before .before .before
+  turn-of c = c .before .before .before
 
   abbrev match-of : AtLoop → AtMatch
-  match-of c = c .before .before .before .before .before .before .before .before
+  match-of c = c .before .before .before .before .before .before .before .before .before
 
   abbrev loop-of : AtWalk → InLoop
-  loop-of c = c .before .before .before .before .before .before .before .before .before
+  loop-of c = c .before .before .before .before .before .before .before
 
   -- where the walk stood before the turn
   abbrev start-of : AtMatch → Start
@@ -112,7 +112,7 @@ module _ (t : ℕ) where
   returns : walk-lts.Need-returns (R t) (walk-at t) walk.Post Inv-loop μ-loop
   returns c =
       let at-end = c .before .before in
-      let at-start = at-end .before .before .before .before .before .before .before .before .before in (
+      let at-start = at-end .before .before .before .before .before .before .before in (
         record {
           written = written-none _ _ _ (at-start .pre .1 .1 .most) (ready-more (at-start .pre .1 .0 .0) (not-there _ _ (at-end .if1 .taken)) (c .if2 .taken));
           levels-same = refl;
@@ -123,16 +123,16 @@ module _ (t : ℕ) where
 
   emit-requires : walk-lts.Need-emit-requires (R t) (walk-at t) walk.Post Inv-loop μ-loop
   emit-requires c κs =
-      let at-start = c .before .before .before .before .before .before .before .before .before .before .before .before .before in
+      let at-start = c .before .before .before .before .before .before .before .before .before .before .before .before in
       let y = at-start .pre .1 .0 .0 in
       ((y .names-few, y .entry-room), at-start .pre .1 .1)
 
   returns-2 : walk-lts.Need-returns-2 (R t) (walk-at t) walk.Post Inv-loop μ-loop
   returns-2 c =
       let at-emit = c .before .before in
-      let at-empty = at-emit .before .before .before in
+      let at-empty = at-emit .before .before .before .before in
       let at-end = at-empty .before .before in
-      let at-start = at-end .before .before .before .before .before .before .before .before .before in (
+      let at-start = at-end .before .before .before .before .before .before .before in (
         record {
           written = written-same (ready-hit (at-start .pre .1 .0 .0) (not-there _ _ (at-end .if1 .taken)) (at-empty .if2 .left)) (at-emit .emit .ensures);
           levels-same = refl;
@@ -201,15 +201,15 @@ module _ (t : ℕ) where
 
   put-back-requires : walk-lts.Need-put-back-requires (R t) (walk-at t) walk.Post Inv-loop μ-loop
   put-back-requires c κs =
-      let at-walk = c .before .before .before .before .before .before .before .before .before in
+      let at-walk = c .before .before .before .before .before in
       let at-turn = turn-of (at-walk .before .before .before .before .before .before .before) in
       let y = begin (record-of at-turn) .pre .1 .0 .0 in
-      (ready-stands y .depth, omega (arith, y .level-room, at-turn .take-turn .kept .1 .1 .1 .1 .1 .1 .1 .0, at-walk .walk .kept .1 .1 .1 .1 .1 .1 .1 .0))
+      (ready-stands y .depth, omega arith)
 
   returns-6 : walk-lts.Need-returns-6 (R t) (walk-at t) walk.Post Inv-loop μ-loop
   returns-6 c =
-      let at-put = c .before .before in
-      let at-walk = at-put .before .before .before .before .before .before .before .before .before .before in
+      let at-put = c in
+      let at-walk = at-put .before .before .before .before .before .before in
       let at-told = at-walk .before .before .before .before .before in
       let turn = turn-of (at-told .before .before) .take-turn .ensures .0 in
       (next-walked turn (at-told .enum-told3 .given .1) (at-walk .walk .ensures .0) (at-put .put-back .ensures), at-walk .walk .ensures .1)
@@ -221,7 +221,7 @@ module _ (t : ℕ) where
 
   next-split-requires : walk-lts.Need-next-split-requires (R t) (walk-at t) walk.Post Inv-loop μ-loop
   next-split-requires c κs =
-      let at-told = c .before .before in
+      let at-told = c .before .before .before in
       let at-turn = turn-of (at-told .before .before) in
       let y = begin (record-of at-turn) .pre .1 .0 .0 in
       let turn = at-turn .take-turn .ensures .0 in
@@ -231,7 +231,7 @@ module _ (t : ℕ) where
 
   loop-holds : walk-lts.Need-loop-holds (R t) (walk-at t) walk.Post Inv-loop μ-loop
   loop-holds c =
-      let at-match = c .before .before .before .before .before .before .before in
+      let at-match = c .before .before .before .before .before .before .before .before in
       let at-record = record-of (turn-of at-match) in
       let at-split = c .before .before in
       (splitting-start _ _ _ _ _ _ (begin at-record .pre .1 .1 .goes) (begin at-record .pre .1 .1 .most) (at-split .next-split .ensures .0), at-split .next-split .ensures .1, refl)
@@ -239,7 +239,7 @@ module _ (t : ℕ) where
   give-requires : walk-lts.Need-give-requires (R t) (walk-at t) walk.Post Inv-loop μ-loop
   give-requires c κs =
       let at-loop = c .before .before in
-      let at-told = at-loop .before .before .before .before .before .before in
+      let at-told = at-loop .before .before .before .before .before .before .before in
       let at-turn = turn-of (match-of at-loop) in
       let y = begin (record-of at-turn) .pre .1 .0 .0 in
       let turn = at-turn .take-turn .ensures .0 in
@@ -251,17 +251,17 @@ module _ (t : ℕ) where
       )
 
   add-walk-2 : walk-lts.Need-add-walk-2 (R t) (walk-at t) walk.Post Inv-loop μ-loop
-  add-walk-2 c = omega (arith, next-fits (record-of (turn-of (match-of (c .before .before .before .before .before)))))
+  add-walk-2 c = omega (arith, next-fits (record-of (turn-of (match-of (c .before .before .before)))))
 
   walk-requires-2 : walk-lts.Need-walk-requires-2 (R t) (walk-at t) walk.Post Inv-loop μ-loop
   walk-requires-2 c κs =
-      let at-give = c .before .before .before .before .before .before in
+      let at-give = c .before .before .before .before in
       let at-loop = at-give .before .before .before in
       let at-turn = turn-of (match-of at-loop) in
       let at-start = begin (record-of at-turn) in
       let y = at-start .pre .1 .0 .0 in
       let kept = at-turn .take-turn .kept in
-      let e = at-loop .before .before .before .before .before .before .enum-told4 .given .1 in
+      let e = at-loop .before .before .before .before .before .before .before .enum-told4 .given .1 in
       let o = at-loop .loop .inv .0 in (
         omega (arith, record-of at-turn .if1 .left, at-start .pre .0),
         (
@@ -275,57 +275,45 @@ module _ (t : ℕ) where
         ),
       )
 
-  same-length-3 : walk-lts.Need-same-length-3 (R t) (walk-at t) walk.Post Inv-loop μ-loop
-  same-length-3 c =
-      let at-walk = c .before .before .before .before .before .before .before .before .before .before in
-      let at-loop = loop-of at-walk .before in
-      omega (arith, ap length (at-loop .loop .inv .0 .levels-same), turn-of (match-of at-loop) .take-turn .kept .1 .1 .1 .1 .1 .1 .1 .0, at-walk .walk2 .kept .1 .1 .1 .1 .1 .1 .1 .0)
-
-  same-length-4 : walk-lts.Need-same-length-4 (R t) (walk-at t) walk.Post Inv-loop μ-loop
-  same-length-4 c =
-      let at-walk = c .before .before .before .before .before .before .before .before .before .before in
-      let at-loop = loop-of at-walk .before in
-      let kept = turn-of (match-of at-loop) .take-turn .kept .1 .1 .1 .1 .1 .1 .1 .1 .0 in
-      omega (arith, at-loop .loop .inv .0 .binds-length, kept, at-walk .before .before .before .before .before .before .before .give .kept .1 .1 .0, at-walk .walk2 .kept .1 .1 .1 .1 .1 .1 .1 .1 .0)
-
-  same-length-5 : walk-lts.Need-same-length-5 (R t) (walk-at t) walk.Post Inv-loop μ-loop
-  same-length-5 c =
-      let at-walk = c .before .before .before .before .before .before .before .before .before .before in
+  same-length-2 : walk-lts.Need-same-length-2 (R t) (walk-at t) walk.Post Inv-loop μ-loop
+  same-length-2 c =
+      let at-walk = c .before .before .before .before .before .before in
       let at-loop = loop-of at-walk .before in
       let first = at-loop .before .before .before .next-split .kept .1 .1 .1 .1 .1 .1 .1 .1 .1 .0 in
       omega (arith, at-loop .loop .inv .2, first, turn-of (match-of at-loop) .take-turn .kept .1 .1 .1 .1 .1 .1 .1 .1 .1 .0, at-walk .walk2 .kept .1 .1 .1 .1 .1 .1 .1 .1 .1 .0)
 
   returns-3 : walk-lts.Need-returns-3 (R t) (walk-at t) walk.Post Inv-loop μ-loop
   returns-3 c =
-      let at-walk = c .before .before .before .before .before .before .before .before .before .before in
-      let at-give = at-walk .before .before .before .before .before .before .before in
+      let at-walk = c .before .before .before .before .before .before in
+      let at-give = at-walk .before .before .before .before .before in
       let at-loop = at-give .before .before .before in
+      let e = at-loop .before .before .before .before .before .before .before .enum-told4 .given .1 in
       let at-turn = turn-of (match-of at-loop) in (
-        splitting-stops (begin (record-of at-turn) .pre .1 .0 .0) (at-turn .take-turn .ensures .0) (at-loop .before .before .before .before .before .before .enum-told4 .given .1) (at-loop .loop .inv .0)
+        splitting-stops (begin (record-of at-turn) .pre .1 .0 .0) (at-turn .take-turn .ensures .0) e (at-loop .loop .inv .0)
             (at-give .before .before .loop-test .taken) _ (at-give .give .ensures .0) (at-give .give .ensures .1) (at-walk .walk2 .ensures .0) (c .if3 .taken),
         at-walk .walk2 .ensures .1,
       )
 
   add-next-split-2 : walk-lts.Need-add-next-split-2 (R t) (walk-at t) walk.Post Inv-loop μ-loop
-  add-next-split-2 c = omega (arith, next-fits (record-of (turn-of (match-of (loop-of (c .before .before .before .before .before .before .before .before .before .before) .before)))))
+  add-next-split-2 c = omega (arith, next-fits (record-of (turn-of (match-of (loop-of (c .before .before .before .before .before .before) .before)))))
 
   add-next-split-3 : walk-lts.Need-add-next-split-3 (R t) (walk-at t) walk.Post Inv-loop μ-loop
   add-next-split-3 c =
-      let in-loop = loop-of (c .before .before .before .before .before .before .before .before .before .before .before) in
+      let in-loop = loop-of (c .before .before .before .before .before .before .before .before) in
       let at-turn = turn-of (match-of (in-loop .before)) in
       let y = begin (record-of at-turn) .pre .1 .0 .0 in
-      omega (arith, in-loop .loop-test .taken, split-inside y (at-turn .take-turn .ensures .0) (in-loop .before .before .before .before .before .before .before .enum-told4 .given .1), y .few)
+      omega (arith, in-loop .loop-test .taken, split-inside y (at-turn .take-turn .ensures .0) (in-loop .before .before .before .before .before .before .before .before .enum-told4 .given .1), y .few)
 
   next-split-requires-2 : walk-lts.Need-next-split-requires-2 (R t) (walk-at t) walk.Post Inv-loop μ-loop
   next-split-requires-2 c κs =
-      let at-walk = c .before .before .before .before .before .before .before .before .before .before .before .before in
-      let at-give = at-walk .before .before .before .before .before .before .before in
+      let at-walk = c .before .before .before .before .before .before .before .before .before in
+      let at-give = at-walk .before .before .before .before .before in
       let in-loop = at-give .before .before in
       let at-loop = in-loop .before in
       let at-turn = turn-of (match-of at-loop) in
       let y = begin (record-of at-turn) .pre .1 .0 .0 in
       let turn = at-turn .take-turn .ensures .0 in
-      let e = at-loop .before .before .before .before .before .before .enum-told4 .given .1 in
+      let e = at-loop .before .before .before .before .before .before .before .enum-told4 .given .1 in
       let o = at-loop .loop .inv .0 in
       let same = given-kept y turn e o (in-loop .loop-test .taken) _ (at-give .give .ensures .0) (at-give .give .ensures .1) (at-walk .walk2 .ensures .0) in (
         (
@@ -336,7 +324,6 @@ module _ (t : ℕ) where
             at-turn .take-turn .kept .1 .1 .1 .1 .1 .1 .1 .1 .0,
             o .binds-length,
             at-give .give .kept .1 .1 .0,
-            at-walk .walk2 .kept .1 .1 .1 .1 .1 .1 .1 .1 .0,
           )),
           at-walk .walk2 .ensures .1,
         ),
@@ -344,30 +331,27 @@ module _ (t : ℕ) where
       )
 
   loop-less : walk-lts.Need-loop-less (R t) (walk-at t) walk.Post Inv-loop μ-loop
-  loop-less c = omega (arith, c .before .before .next-split2 .ensures .0 .low, loop-of (c .before .before .before .before .before .before .before .before .before .before .before .before .before .before .before) .loop-test .taken)
+  loop-less c =
+      let in-loop = loop-of (c .before .before .before .before .before .before .before .before .before .before .before .before) in
+      omega (arith, c .before .before .next-split2 .ensures .0 .low, in-loop .loop-test .taken)
 
   loop-again : walk-lts.Need-loop-again (R t) (walk-at t) walk.Post Inv-loop μ-loop
   loop-again c =
-      let at-walk = c .before .before .before .before .before .before .before .before .before .before .before .before .before .before .before in
-      let at-give = at-walk .before .before .before .before .before .before .before in
+      let at-walk = c .before .before .before .before .before .before .before .before .before .before .before .before in
+      let at-give = at-walk .before .before .before .before .before in
       let in-loop = at-give .before .before in
       let at-loop = in-loop .before in
+      let e = at-loop .before .before .before .before .before .before .before .enum-told4 .given .1 in
       let at-turn = turn-of (match-of at-loop) in (
-        splitting-next (begin (record-of at-turn) .pre .1 .0 .0) (at-turn .take-turn .ensures .0) (at-loop .before .before .before .before .before .before .enum-told4 .given .1) (at-loop .loop .inv .0)
-            (in-loop .loop-test .taken) _ (at-give .give .ensures .0) (at-give .give .ensures .1) (at-walk .walk2 .ensures .0) (c .before .before .before .before .before .if3 .left)
-            (omega (arith, at-give .give .kept .1 .1 .0, at-walk .walk2 .kept .1 .1 .1 .1 .1 .1 .1 .1 .0)) (at-walk .walk2 .kept .1 .1 .1 .1 .1 .1 .1 .1 .1 .1 .1 .0) (c .before .before .next-split2 .ensures .0),
+        splitting-next (begin (record-of at-turn) .pre .1 .0 .0) (at-turn .take-turn .ensures .0) e (at-loop .loop .inv .0)
+            (in-loop .loop-test .taken) _ (at-give .give .ensures .0) (at-give .give .ensures .1) (at-walk .walk2 .ensures .0) (c .before .before .before .before .before .before .if3 .left)
+            (omega (arith, c .before .before .before .before .next-split-arg5)) (at-walk .walk2 .kept .1 .1 .1 .1 .1 .1 .1 .1 .1 .1 .1 .0) (c .before .before .next-split2 .ensures .0),
         c .before .before .next-split2 .ensures .1,
         omega (arith, at-loop .loop .inv .2, at-walk .walk2 .kept .1 .1 .1 .1 .1 .1 .1 .1 .1 .0, c .before .before .next-split2 .kept .1 .1 .1 .1 .1 .1 .1 .1 .1 .0),
       )
 
-  same-length-17 : walk-lts.Need-same-length-17 (R t) (walk-at t) walk.Post Inv-loop μ-loop
-  same-length-17 c = omega (arith, ap length (c .before .loop .inv .0 .levels-same), turn-of (match-of (c .before)) .take-turn .kept .1 .1 .1 .1 .1 .1 .1 .0)
-
-  same-length-18 : walk-lts.Need-same-length-18 (R t) (walk-at t) walk.Post Inv-loop μ-loop
-  same-length-18 c = omega (arith, c .before .loop .inv .0 .binds-length, turn-of (match-of (c .before)) .take-turn .kept .1 .1 .1 .1 .1 .1 .1 .1 .0)
-
-  same-length-19 : walk-lts.Need-same-length-19 (R t) (walk-at t) walk.Post Inv-loop μ-loop
-  same-length-19 c =
+  same-length-8 : walk-lts.Need-same-length-8 (R t) (walk-at t) walk.Post Inv-loop μ-loop
+  same-length-8 c =
       let at-loop = c .before in
       let first = at-loop .before .before .before .next-split .kept .1 .1 .1 .1 .1 .1 .1 .1 .1 .0 in
       omega (arith, at-loop .loop .inv .2, first, turn-of (match-of at-loop) .take-turn .kept .1 .1 .1 .1 .1 .1 .1 .1 .1 .0)
@@ -375,8 +359,9 @@ module _ (t : ℕ) where
   returns-7 : walk-lts.Need-returns-7 (R t) (walk-at t) walk.Post Inv-loop μ-loop
   returns-7 c =
       let at-loop = c .before in
+      let e = at-loop .before .before .before .before .before .before .before .enum-told4 .given .1 in
       let at-turn = turn-of (match-of at-loop) in
-      (splitting-done (begin (record-of at-turn) .pre .1 .0 .0) (at-turn .take-turn .ensures .0) (at-loop .before .before .before .before .before .before .enum-told4 .given .1) (at-loop .loop .inv .0) (c .loop-test .left), at-loop .loop .inv .1)
+      (splitting-done (begin (record-of at-turn) .pre .1 .0 .0) (at-turn .take-turn .ensures .0) e (at-loop .loop .inv .0) (c .loop-test .left), at-loop .loop .inv .1)
 
 pub +walk-spec : {M : Type 1} → statement M
 +walk-spec = close μ-walk λ t. walk-lts.spec (R t)
@@ -386,7 +371,6 @@ pub +walk-spec : {M : Type 1} → statement M
     μ-loop
     (returns t)
     (emit-requires t)
-    (λ c. search needs)
     (λ c. search needs)
     (returns-2 t)
     (take-turn-requires t)
@@ -403,9 +387,7 @@ pub +walk-spec : {M : Type 1} → statement M
     (give-requires t)
     (add-walk-2 t)
     (walk-requires-2 t)
-    (same-length-3 t)
-    (same-length-4 t)
-    (same-length-5 t)
+    (same-length-2 t)
     (λ c. search needs)
     (returns-3 t)
     (add-next-split-2 t)
@@ -414,20 +396,12 @@ pub +walk-spec : {M : Type 1} → statement M
     (loop-less t)
     (loop-again t)
     (λ c. search needs)
-    (λ c. search needs)
-    (λ c. search needs)
     (returns-4 t)
-    (λ c. search needs)
-    (λ c. search needs)
     (λ c. search needs)
     (returns-5 t)
     (λ c. search needs)
     (λ c. search needs)
-    (λ c. search needs)
-    (λ c. search needs)
     (returns-6 t)
-    (same-length-17 t)
-    (same-length-18 t)
-    (same-length-19 t)
+    (same-length-8 t)
     (λ c. search needs)
     (returns-7 t)

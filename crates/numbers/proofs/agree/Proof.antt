@@ -1,15 +1,16 @@
--- `agree`: the loop's invariant says that the numbers passed are the same.
-use Prim.Native.Nat.{ℕ, _+_, _-_, _<_, _≤_}
-use mathlib.Core.Path.{_≡_}
-use borrow.Author.Count.{below-none, below-more}
+-- `agree`: the loop's invariant says that the numbers passed are the same; each turn passes one block more of them.
+use Prim.Native.Nat.{_-_, _≤_}
+use borrow.Author.Count.{below-none}
 use borrow.Author.Needs.{needs}
-use lib.ListN.{getD}
+use borrow.Author.Tests.{not-false}
 use native.Mathlib.Omega.{arith}
+use Rattle.numbers.specs.Numbers.{Same}
+use Rattle.numbers.specs.NumbersLaws.{same-more}
 use Rattle.numbers.proofs.agree.Statement.{statement}
 use Rattle.numbers.proofs.agree.Tie as tie
 
 abbrev Inv-loop : tie.InvT-loop
-Inv-loop numbers s p n k₀ k = (k ≤ n) × ((i : ℕ) → i < k → getD numbers (s + i) 0 ≡ getD numbers (p + i) 0)
+Inv-loop numbers s p n k₀ k = (k ≤ n) × Same numbers s p k
 
 abbrev μ-loop : tie.MeasureT-loop
 μ-loop numbers s p n k₀ k = n - k
@@ -17,22 +18,19 @@ abbrev μ-loop : tie.MeasureT-loop
 loop-holds : tie.Need-loop-holds Inv-loop μ-loop
 loop-holds c = (omega arith, below-none _)
 
-returns : tie.Need-returns Inv-loop μ-loop
-returns c =
-    let at-loop = c .before .before .before .before in
-    record { within = at-loop .loop .inv .0; same = at-loop .loop .inv .1; apart = λ h e. c .if1 .taken e }
+agree-from-requires : tie.Need-agree-from-requires Inv-loop μ-loop
+agree-from-requires c κs = let at-loop = c .before .before .before in (at-loop .before .before .pre, at-loop .loop .inv)
 
 loop-again : tie.Need-loop-again Inv-loop μ-loop
 loop-again c =
-    let at-loop = c .before .before .before .before in
-    (omega arith, below-more _ _ (at-loop .loop .inv .1) (c .if1 .left))
+    let at-call = c .before in
+    let at-loop = at-call .before .before in
+    let given = at-loop .before .before .args in
+    let block = at-call .all-same .ensures (not-false _ (c .if1 .left)) in
+    (omega arith, same-more (given .numbers .now) (given .s) (given .p) (at-loop .loop .k) 64 (at-loop .loop .inv .1) block)
 
-returns-2 : tie.Need-returns-2 Inv-loop μ-loop
-returns-2 c = record {
-  within = omega arith;
-  same = λ i h. c .before .loop .inv .1 i (omega arith);
-  apart = λ h. absurd (omega arith);
-}
+agree-from-requires-2 : tie.Need-agree-from-requires-2 Inv-loop μ-loop
+agree-from-requires-2 c κs = let at-loop = c .before in (at-loop .before .before .pre, at-loop .loop .inv)
 
 pub agree-spec : {M : Type 1} → statement M
 agree-spec =
@@ -44,11 +42,11 @@ agree-spec =
     (λ c. search needs)
     (λ c. search needs)
     (λ c. search needs)
+    (λ c κs. search needs)
+    agree-from-requires
     (λ c. search needs)
-    (λ c. search needs)
-    (λ c. search needs)
-    returns
     (λ c. search needs)
     (λ c. search needs)
     loop-again
-    returns-2)
+    agree-from-requires-2
+    (λ c. search needs))

@@ -4,13 +4,13 @@ use mathlib.Core.Path.{_≡_, refl, ap, _∙_}
 use lib.ListN.{length}
 use lib.Seq.{sets, length-sets}
 use Prim.Native.Nat.{_-_, _≤_}
-use Rattle.places.specs.Places.{upFrom}
+use Rattle.term_spec.specs.ListLaws.{numbersFrom}
 use Rattle.places.specs.PlacesLaws.{up-next}
 use Rattle.places.proofs.put_run.Statement.{statement}
 use Rattle.places.proofs.put_run.Tie as tie
 
 abbrev Inv-loop : tie.InvT-loop
-Inv-loop places₀ to start n i₀ places i = (i ≤ n) × (places ≡ sets places₀ to (upFrom start i))
+Inv-loop places₀ to start n i₀ places i = (i ≤ n) × (places ≡ sets places₀ to (numbersFrom start i))
 
 abbrev μ-loop : tie.MeasureT-loop
 μ-loop places₀ to start n i₀ places i = n - i
@@ -19,10 +19,9 @@ abbrev μ-loop : tie.MeasureT-loop
 same : (c : tie.At-loop Inv-loop μ-loop) → length (c .loop .places) ≡ length (c .before .before .args .places .now)
 same c =
     let x = c .before .before .args in
-    ap length (c .loop .inv .1) ∙ length-sets (x .places .now) (x .to) (upFrom (x .start) (c .loop .i))
+    ap length (c .loop .inv .1) ∙ length-sets (x .places .now) (x .to) (numbersFrom (x .start) (c .loop .i))
 
 loop-holds : tie.Need-loop-holds Inv-loop μ-loop
-unfolding upFrom
 loop-holds c = (omega arith, refl)
 
 set-word-requires : tie.Need-set-word-requires Inv-loop μ-loop
@@ -42,7 +41,7 @@ returns c =
     let at-loop = c .before in
     let start = at-loop .before .before in
     let e : at-loop .loop .i ≡ start .args .n = omega (arith, at-loop .loop .inv .0) in
-    at-loop .loop .inv .1 ∙ ap (λ k. sets (start .args .places .now) (start .args .to) (upFrom (start .args .start) k)) e
+    at-loop .loop .inv .1 ∙ ap (λ k. sets (start .args .places .now) (start .args .to) (numbersFrom (start .args .start) k)) e
 
 pub put-run-spec : {M : Type 1} → statement M
 put-run-spec =

@@ -14,10 +14,14 @@ ready : (c : tie.Start) → let a = c .args in RunReady (a .names .now) (a .term
 ready c = record { store = c .pre .0 .0; few = c .pre .0 .1; inside = top-in _ _ (c .pre .0 .2) }
 
 turn-literal-requires : tie.Need-turn-literal-requires
-turn-literal-requires c κs = let at-start = c .before .before .before .before .before .before .before in (record { used = at-start .args .used; ready = ready at-start }, (at-start .pre .1 .0, c .if1 .taken))
+turn-literal-requires c κs =
+    let at-start = c .before .before .before .before .before .before .before in
+    (record { used = at-start .args .used; ready = ready at-start }, (at-start .pre .1 .0, c .if1 .taken))
 
 returns : tie.Need-returns
-returns c = let at-start = c .before .before .before .before .before .before .before .before in (c .turn-literal .ensures _ _ _ _ _ (ready at-start .inside), levels-same _ _ _, refl, at-start .pre .0 .3)
+returns c =
+    let at-start = c .before .before .before .before .before .before .before .before in
+    (c .turn-literal .ensures _ _ _ _ _ (ready at-start .inside), levels-same _ _ _, refl, at-start .pre .0 .3)
 
 turn-open-requires : tie.Need-turn-open-requires
 turn-open-requires c κs =

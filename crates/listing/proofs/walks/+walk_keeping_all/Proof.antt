@@ -28,20 +28,21 @@ R t = (walk-with-reads.Asked, walk-with-reads.Learnt, below t, self.Post)
 walk-with-requires : (t : ℕ) → lts.Need-walk-with-requires (R t) (at t) self.Post
 walk-with-requires t c κs = (c .before .before .before .before .before .before .before .before .pre .1, memory-none _ _ _ 65537)
 
--- it never calls itself: no store has so many terms
+-- it never calls itself: the run is among the used terms
 no-call : (t : ℕ) → lts.Need-walk-keeping-all-requires (R t) (at t) self.Post
 no-call t c κs =
-    let at-start = c .before .before .before .before .before .before .before .before .before .before .before .before .before .before in
-    absurd (omega (arith, at-start .pre .1 .few-terms, c .before .if1 .taken))
+    let at-if1 = c .before in
+    let at-start = at-if1 .before .before .before .before .before .before .before .before .before .before .before .before .before .before in
+    absurd (omega (arith, at-start .pre .1 .inside, at-if1 .if1 .taken))
 
 no-return : (t : ℕ) → lts.Need-returns (R t) (at t) self.Post
 no-return t c =
     let at-if1 = c .before .before .before .before in
-    let at-start = at-if1 .before .before .before .before .before .before .before .before .before .before .before .before .before in
-    absurd (omega (arith, at-start .pre .1 .few-terms, at-if1 .if1 .taken))
+    let at-start = at-if1 .before .before .before .before .before .before .before .before .before .before .before .before .before .before in
+    absurd (omega (arith, at-start .pre .1 .inside, at-if1 .if1 .taken))
 
 returns-2 : (t : ℕ) → lts.Need-returns-2 (R t) (at t) self.Post
-returns-2 t c = c .before .before .before .before .walk-with .ensures
+returns-2 t c = c .before .before .before .before .before .walk-with .ensures
 
 pub +walk-keeping-all-spec : {M : Type 1} → statement M
 +walk-keeping-all-spec = close μ λ t. lts.spec (R t)

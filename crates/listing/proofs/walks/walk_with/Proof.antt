@@ -32,7 +32,7 @@ walk-requires c κs =
 
 returns : tie.Need-returns
 returns c =
-    let at-walk = c .before .before .before .before .before .before in
+    let at-walk = c .before .before .before .before in
     let at-copied = at-walk .before .before .before .before .before .before in
     let a = at-copied .before .before .before .before .before .before .before .before .before .args in
     let st = place (a .run .start) (a .run .len) (length (a .bindings .now)) (at-copied .start .last .1 .0) in
@@ -47,8 +47,6 @@ walk-with-spec =
     (tie.spec
     (λ c. search needs)
     start-requires
-    (λ c. search needs)
-    (λ c. search needs)
     walk-requires
     (λ c. search needs)
     (λ c. search needs)
