@@ -119,7 +119,7 @@ entered_at (making k) b vs f e = let q : f ≡ k = cc in Memᴰ.head (ap (λ z. 
 model-keeps : (b : Model) (ms : List Moment) (e : Field × List Value) → Memᴰ e b → Memᴰ e (model b ms)
 unfolding model
 model-keeps b [] e i = i
-model-keeps b (m ∷ ms) e i = model-keeps _ ms e (enter-more (effect_of m.after.answer) b _ e i)
+model-keeps b (m ∷ ms) e i = model-keeps (enter_by (effect_of m.after.answer) b _) ms e (enter-more (effect_of m.after.answer) b _ e i)
 
 model_has : (b : Model) (ms : List Moment) (m : Moment) (f : Field) → Memᴰ m ms → m.after.answer ≡ built f
     → (ts : List Value) × Memᴰ (f, ts) (model b ms)

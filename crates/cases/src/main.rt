@@ -1,6 +1,8 @@
 // Runs the cases of the files that the arguments name: lines of stores, calls and what they must answer and leave (docs/CASES.md has their
 // form). It prints a line for each case that went wrong and for each line that cannot be read, then for each file how many cases ran.
 // Stack: a file's text of up to 1 MB, the names, and arrays of words, less than 1.3 MB in all.
+#![tactic(auto)]
+
 mod at;
 mod calls;
 mod line;

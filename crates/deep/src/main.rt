@@ -2,6 +2,8 @@
 // answers as lines of the file that its argument names (docs/CASES.md). Last comes the answer to the sheet on standard input.
 // Nothing recurses on a store's height, so a stack of 2 MB is enough, the stores included: 65,537 node records (one more than the limit) and
 // 16,384 term records.
+#![tactic(auto)]
+
 mod calls;
 mod stores;
 

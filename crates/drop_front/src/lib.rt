@@ -1,4 +1,6 @@
 // Dropping terms from the front of a node. From value.rs (`drop_front`). Nothing here recurses: a store can be 65,535 nodes high.
+#![tactic(auto)]
+
 ghost use Rattle.std.specs.Prelude.{◌≡◌, ℕ, drop};
 ghost use Rattle.term_spec.specs.Words.{write};
 ghost use Rattle.view_spec.specs.Node.{node_layout};
@@ -8,7 +10,7 @@ ghost use Rattle.drop_front.specs.DropFront.{StoppedIn, plan_in, Room};
 
 // Where dropping ends along the right sides: at a node, in a Cons (its rest, to be made), or inside a Concat's left: that left, the
 // terms to drop there, the size left over, and the right.
-#[derive(Drop)]
+#[derive(Clone, Copy)]
 pub enum Stop {
     Stay(usize),
     Cut(usize, usize, usize),

@@ -1,6 +1,8 @@
 // Equality of terms and runs, term by term: from value.rs (equality of `Value`). Brackets may share contents, so that comparing term by term
 // alone could take as long as all contents written out in full. It is tried first, within a budget; once that is spent, all terms are numbered
 // (crate numbers), and from then on runs are compared by the numbers of their terms.
+#![tactic(auto)]
+
 ghost use Rattle.std.specs.Prelude.{◌≡◌, List, true, false, ℕ, ◌+◌, ◌<◌, ◌≤◌, length};
 ghost use Rattle.value.specs.Equal.{TermStore, equal_at, spec_equal_runs};
 ghost use Rattle.equality.specs.Compare.{compared_runs, answer_of};
@@ -15,7 +17,7 @@ use words::{Run, refusal};
 // ---- within a budget ----
 
 // What comparing within a budget tells: nothing once the budget is spent; otherwise whether the two are equal, and what is left of it.
-#[derive(Drop)]
+#[derive(Clone, Copy)]
 pub enum Outcome {
     Different(usize),
     Equal(usize),
@@ -262,7 +264,7 @@ pub fn equal_runs(
 // ---- any two runs ----
 
 // What comparing two runs answers.
-#[derive(Drop)]
+#[derive(Clone, Copy)]
 pub enum Compared {
     Equal,
     Different,

@@ -1,5 +1,7 @@
 // A chain of Cons nodes from a list of runs. From value.rs (`from_runs`). Nothing here recurses: both loops go from the last run to the
 // first, and hold the fused run that comes next.
+#![tactic(auto)]
+
 ghost use Rattle.std.specs.Prelude.{◌≡◌, ◌≤◌, ◌&&◌, leb, length, drop};
 ghost use Rattle.term_spec.specs.Words.{AtMost, count, whole, records, write};
 ghost use Rattle.term_spec.specs.Term.{run_layout, runs_rule, run_list_limit};
@@ -12,7 +14,7 @@ ghost use Rattle.from_runs.specs.FromRuns.{Stepped, head_at, closed, closed_at, 
 use words::Run;
 
 // What a run does before the runs after it: nothing, since it is empty; it is fused with the next; it stands by itself.
-#[derive(Drop)]
+#[derive(Clone, Copy)]
 pub enum Step {
     Skip,
     Fuse,

@@ -1,4 +1,6 @@
 // Records of patterns and bindings in lent slices, as structs by value.
+#![tactic(auto)]
+
 ghost use Rattle.std.specs.Prelude.{◌≡◌, ◌+◌};
 ghost use Rattle.term_spec.specs.Words.{Lies, record_at};
 ghost use Rattle.match_spec.specs.Pattern.{item_layout, binding_layout};
@@ -8,7 +10,7 @@ ghost use Rattle.items.specs.Records.{as_item, term_of_item, as_binding};
 use words::Term;
 
 // One record of a pattern, its words widened.
-#[derive(Drop)]
+#[derive(Clone, Copy)]
 pub struct Item {
     pub kind: usize,
     pub a: usize,
@@ -17,7 +19,7 @@ pub struct Item {
 }
 
 // One binding, its words widened.
-#[derive(Drop)]
+#[derive(Clone, Copy)]
 pub struct Binding {
     pub kind: usize,
     pub offset: usize,

@@ -1,4 +1,6 @@
 // Joining ropes (value.rs, `join`), as loops: a store can be 65,535 nodes high, so nothing here recurses.
+#![tactic(auto)]
+
 ghost use Rattle.std.specs.Prelude.{◌≡◌, ℕ, drop};
 ghost use Rattle.term_spec.specs.Words.{write};
 ghost use Rattle.view_spec.specs.Node.{node_layout, Piece};
@@ -8,7 +10,7 @@ ghost use Rattle.join.specs.Turn.{PieceIn, TurnedIn, grown, Joins};
 
 // One step of a join, from the top of the left down. Base: the first terms of a node, before the right. Single: the first terms of a node,
 // before the rest. Double: a head of a node's first terms and a further node, the first terms of that head, before the rest.
-#[derive(Drop)]
+#[derive(Clone, Copy)]
 pub enum Turn {
     Base(usize, usize),
     Single(usize, usize, usize, usize),

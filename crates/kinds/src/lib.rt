@@ -1,4 +1,6 @@
 // Which variable takes which kind of term: one table, indexed twice. From matcher.rs (`variable_accepts`).
+#![tactic(auto)]
+
 ghost use Rattle.std.specs.Prelude.{◌≡◌, ◌+◌, ◌<◌};
 ghost use Rattle.words.specs.Records.{as_term};
 ghost use Rattle.kinds.specs.Kinds.{rows, columns, spec_column_of, takes_at, takes_term};

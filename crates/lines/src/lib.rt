@@ -1,4 +1,6 @@
 // Texts of lines and tokens, for the programs that read their cases. A token is quoted, or ends at a space.
+#![tactic(auto)]
+
 ghost use Rattle.std.specs.Prelude.{◌<◌, ◌≤◌, length};
 
 // What no list of words has.
@@ -111,7 +113,7 @@ pub fn wide(b: u8) -> usize
 }
 
 // A decimal number, if the text is one and not too large.
-#[derive(Drop)]
+#[derive(Clone, Copy)]
 pub enum Parsed {
     Is(usize),
     Nothing,

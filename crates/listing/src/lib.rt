@@ -1,5 +1,7 @@
 // Listing and first match as calls: the checks, the settled field, the walk, the answer. From matcher.rs
 // (`match_pattern_with_bindings_candidates`, `match_pattern_first`); refusals but 10 and 11 are the port's.
+#![tactic(auto)]
+
 mod walks;
 
 ghost use Rattle.std.specs.Prelude.{◌≡◌, List, ◌≤◌, length};
@@ -18,7 +20,7 @@ use words::refusal;
 
 // What a listing answers: all candidates, with their count and the number of names; the slots are full and a further candidate exists; a
 // refusal.
-#[derive(Drop)]
+#[derive(Clone, Copy)]
 pub enum Matched {
     Listed(usize, usize),
     More(usize, usize),

@@ -1,5 +1,7 @@
 // The depth-first walk over a pattern, with its candidates written into slots. From matcher.rs (`match_all_from`, `match_first_from`): the lists
 // of candidates of the Rust become slots that are filled in the same order.
+#![tactic(auto)]
+
 pub mod status;
 
 ghost use Rattle.std.specs.Prelude.{◌≡◌, [], ◌∷◌, ◌≤◌};
@@ -13,7 +15,7 @@ use steps::{State, What};
 
 // What a listing is to bring: how many entries a candidate has, how many slots there are, and whether the head alone is wanted. A limit on
 // tries (02: 2.5) is to be two fields more.
-#[derive(Drop)]
+#[derive(Clone, Copy)]
 pub struct Goal {
     pub entries: usize,
     pub cap: usize,
@@ -21,14 +23,14 @@ pub struct Goal {
 }
 
 // How far a listing is: why it stopped, one of `status`, and the candidates written.
-#[derive(Drop)]
+#[derive(Clone, Copy)]
 pub struct Tally {
     pub stop: usize,
     pub count: usize,
 }
 
 // A turn as the walk takes it: what the record does, where the walk stands after it, and the two words that an Open may have written over.
-#[derive(Drop)]
+#[derive(Clone, Copy)]
 struct Taken {
     what: What,
     state: State,

@@ -1,5 +1,7 @@
 // Nodes in code: their rules, making them, unclamping, and Concats that are reserved before both children are made. From value.rs (`Node`,
 // `node_height`, `make_concat`, `unclamp`); records and their rules are the port's. Nothing here recurses: a store can be 65,535 nodes high.
+#![tactic(auto)]
+
 ghost use Rattle.std.specs.Prelude.{◌≡◌, List, [], ◌∷◌, ℕ, ◌+◌, ◌<◌, ◌≤◌, ◌^◌, min, max, eqb, length};
 ghost use Rattle.term_spec.specs.Words.{Lies, record_at, write};
 ghost use Rattle.term_spec.specs.Term.{limit};

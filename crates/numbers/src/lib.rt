@@ -2,6 +2,8 @@
 // however deep their brackets are and however many share contents. A term gets the number of the first term that is equal to it; that one is
 // looked for among the terms of its bucket, which its digest gives. A store can be made so that many terms are in one bucket; what looking in vain takes
 // is counted, and where it is too much, the terms are numbered anew with another digest.
+#![tactic(auto)]
+
 pub mod digests;
 
 ghost use Rattle.std.specs.Prelude.{◌≡◌, List, true, ℕ, ◌+◌, ◌*◌, ◌/◌, ◌<◌, ◌≤◌, eqb, length, get_or, set, drop};
@@ -204,7 +206,7 @@ fn apart_above(names: &[u8], terms: &[u32], numbers: &[u16], c: usize, k: usize)
 // ---- numbering ----
 
 // Where an equal term was found: its place plus one, 0 if there is none; and what looking at others took.
-#[derive(Drop)]
+#[derive(Clone, Copy)]
 struct Found {
     at: usize,
     cost: usize,
@@ -241,7 +243,7 @@ fn find_equal(
 }
 
 // A term's number, and what looking for it took in vain.
-#[derive(Drop)]
+#[derive(Clone, Copy)]
 struct Numbered {
     number: usize,
     cost: usize,
@@ -284,7 +286,7 @@ fn number_of(
 }
 
 // How terms are numbered: by digests at this base, and up to this cost of looking in vain.
-#[derive(Drop)]
+#[derive(Clone, Copy)]
 struct Way {
     base: usize,
     most: usize,

@@ -1,5 +1,7 @@
 // Answers as document 01's numbers, with their values in out parameters. An out parameter is written where the answer has a value for it, and
 // left alone by a refusal.
+#![tactic(auto)]
+
 ghost use Rattle.std.specs.Prelude.{◌≡◌, T};
 ghost use Rattle.sheet_spec.specs.Sheet.{counts_at, spec_read_sheet};
 ghost use Rattle.sheet_spec.specs.Job.{counted, read_into};

@@ -17,7 +17,7 @@ fn bucket_of(names: &[u8], base: usize, o: usize, n: usize) -> usize
 }
 
 // Whether a name was found, and how many others were looked at in vain.
-#[derive(Drop)]
+#[derive(Clone, Copy)]
 struct Looked {
     found: bool,
     cost: usize,
@@ -56,14 +56,14 @@ fn name_entered(
 // ---- looking up all of them ----
 
 // How names are looked up: by digests at this base, and free to take any cost or not.
-#[derive(Drop)]
+#[derive(Clone, Copy)]
 struct Way {
     base: usize,
     free: bool,
 }
 
 // What looking up all bindings tells: none has the name of one before it that is entered, or one has; nothing where it was given up.
-#[derive(Drop)]
+#[derive(Clone, Copy)]
 enum Outcome {
     NoneRepeats,
     OneRepeats,

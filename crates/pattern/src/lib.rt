@@ -1,5 +1,7 @@
 // Patterns and starting bindings in code: their rules (7 and 8), and the numbers of their names. From matcher.rs (`VariableKey`,
 // `Bindings`); records and their rules are the port's.
+#![tactic(auto)]
+
 mod apart;
 
 ghost use Rattle.std.specs.Prelude.{◌≡◌, List, [], map, ◌&&◌, ℕ, ◌+◌, ◌<◌, ◌≤◌, min, T, eqb, length, take};

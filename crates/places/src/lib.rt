@@ -1,6 +1,8 @@
 // The places of a rope's terms in the store, a part of the rope at a time, in about as many steps as the part has terms and the rope has nodes. A
 // store can be made so that its terms share a long chain of left parts; so what was read of a node is not read again: its places are copied from
 // where they stand.
+#![tactic(auto)]
+
 ghost use Rattle.std.specs.Prelude.{◌≡◌, ℕ, ◌+◌, ◌-◌, ◌<◌, ◌≤◌, length, get_or, take, drop};
 ghost use Rattle.std.proofs.lemmas.List.Edits.{sets};
 ghost use Rattle.term_spec.specs.Term.{limit};
@@ -14,7 +16,7 @@ ghost use Rattle.places.specs.Places.{part, ShowsPart, PartRead, rest_of, emptie
 use words::Node;
 
 // What is to be read next: `left` terms of a node after its first `skip`, then the fields on a stack of `depth` fields, the last one first.
-#[derive(Drop)]
+#[derive(Clone, Copy)]
 struct Piece {
     node: usize,
     skip: usize,

@@ -1,4 +1,6 @@
 // The library for C and Rust: each public call with its answer as document 01's number, and its values in out parameters.
+#![tactic(auto)]
+
 ghost use Rattle.std.specs.Prelude.{◌≡◌};
 ghost use Rattle.match_spec.specs.Answer.{allOfThem, headOnly};
 ghost use Rattle.calls_spec.specs.Step.{call_from_runs, call_join, call_take, call_rest, call_range};

@@ -1,5 +1,7 @@
 // Whether the rigid run after an open e-variable fits the terms ahead. From matcher.rs (`rigid_run_matches`): a bracket by its kind alone, a
 // known s- or t-variable by the kind of term it takes and not by its value, a known e-variable by its terms.
+#![tactic(auto)]
+
 ghost use Rattle.std.specs.Prelude.{◌≡◌, false, List, ◌∷◌, ℕ, zero, ◌+◌, ◌<◌, ◌≤◌, T};
 ghost use Rattle.term_spec.specs.Words.{Lies, record_at, decode};
 ghost use Rattle.term_spec.specs.Term.{Run as SpecRun, term_layout};
@@ -14,7 +16,7 @@ use items::Item;
 use steps::State;
 
 // What a record of the run does: it does not fit, the run ends before it, it takes so many terms.
-#[derive(Drop)]
+#[derive(Clone, Copy)]
 pub enum Fit {
     No,
     Ends,

@@ -2,6 +2,8 @@
 // the fields are read through an iterator. Nothing here recurses, since a store can be 65,535 nodes high: what is to be read after a piece waits
 // on a stack of 32 fields, and where that is too small reading goes on from the node itself. Where that takes too many steps, the rest is read part
 // by part (crate places).
+#![tactic(auto)]
+
 mod records;
 
 ghost use Rattle.std.specs.Prelude.{◌≡◌, List, [], ℕ, ◌+◌, ◌-◌, ◌*◌, ◌<◌, ◌≤◌, take};
@@ -22,7 +24,7 @@ use words::Run;
 
 // What is to be read next: `left` terms of a node after its first `skip`, then the fields on a stack of `depth` fields, the last one first.
 // `fuel` is how many steps down to a run may still be made: a store can be made so that each run takes a long way.
-#[derive(Drop)]
+#[derive(Clone, Copy)]
 struct Piece {
     node: usize,
     skip: usize,
@@ -154,7 +156,7 @@ fn whole(node: usize, n: usize) -> Piece
 // ---- comparing ----
 
 // How far comparing came: the terms are not equal, or so many are.
-#[derive(Drop)]
+#[derive(Clone, Copy)]
 enum Progress {
     Different,
     Equal(usize),

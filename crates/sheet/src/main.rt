@@ -1,4 +1,6 @@
 // The program `sheet` (01, "The sheet"): reads a sheet from standard input and prints its answer.
+#![tactic(auto)]
+
 use sheet_write::Written;
 
 // The first n bytes go to standard output.

@@ -1,4 +1,6 @@
 // How a sheet's text is laid out (01, "The sheet"): its numbers, its lines, where its parts start. No other crate computes a position in it.
+#![tactic(auto)]
+
 ghost use Rattle.std.specs.Prelude.{◌≡◌, T, ◌+◌, ◌*◌};
 ghost use Rattle.sheet_spec.specs.Sheet.{column_width, line_width, spec_names_start, spec_pattern_start, spec_runs_start, sheet_end};
 ghost use Rattle.sheet_form.specs.Form.{Short, as_counts, in_limits};
@@ -57,7 +59,7 @@ pub const RUN_LINE: usize = COLUMN * (RUN_COLUMNS + RUN_ZEROS) + 1;
 pub const MOST_COLUMNS: usize = 10;
 
 // What stands in a line: the numbers that are kept as words, then zeros, then a newline.
-#[derive(Drop)]
+#[derive(Clone, Copy)]
 pub struct LineForm {
     pub kept: usize,
     pub zeros: usize,
@@ -114,7 +116,7 @@ pub const MOST_ITEMS: usize = items::PATTERN_LIMIT;
 pub const MOST_RUNS: usize = words::RUN_LIST_LIMIT;
 
 // The counts of a sheet: terms, name bytes, pattern records, runs.
-#[derive(Drop)]
+#[derive(Clone, Copy)]
 pub struct Counts {
     pub terms: usize,
     pub names: usize,

@@ -1,5 +1,7 @@
 // The whole job of the program `sheet` as one function, text in, text out (01, "The sheet"): reads the sheet, makes its field, lists, and
 // writes the lines of the answer.
+#![tactic(auto)]
+
 ghost use Rattle.std.specs.Prelude.{◌≡◌, [], ◌∷◌, ◌++◌, length, ◌+◌, ◌*◌, ◌≤◌};
 ghost use Rattle.match_spec.specs.Answer.{allOfThem};
 ghost use Rattle.calls_spec.specs.Step.{call_from_runs, call_match, step, spec_name_count};

@@ -1,4 +1,6 @@
 // Reading a sheet from its text (01, "The sheet"): numbers in columns, lines, the whole. 16 for anything else.
+#![tactic(auto)]
+
 ghost use Rattle.std.specs.Prelude.{◌≡◌, T, length, get_or, ◌+◌, ◌*◌, ◌<◌, ◌≤◌};
 ghost use Rattle.sheet_spec.specs.Sheet.{byte, column_width, number_at, numbers_ok, spec_line_ok, line_width, spec_lines_ok, numbers_at, words_at};
 ghost use Rattle.sheet_spec.specs.Sheet.{terms_start, counts_at, head_rule, body_rule, sheet_at, spec_read_sheet};
@@ -10,7 +12,7 @@ use sheet_form::{Counts, LineForm};
 use words::refusal;
 
 // Columns read from the left: in form so far; a digit was seen; the number up to here.
-#[derive(Drop)]
+#[derive(Clone, Copy)]
 pub struct Columns {
     pub fit: bool,
     pub seen: bool,
@@ -34,7 +36,7 @@ impl Columns {
 }
 
 // What reading a sheet answers.
-#[derive(Drop)]
+#[derive(Clone, Copy)]
 pub enum SheetRead {
     Counted(Counts),
     Refused(usize),

@@ -1,4 +1,6 @@
 // Writing a sheet's text (01, "The sheet"): numbers in columns, lines, the whole. The lines of an answer are written by the same functions.
+#![tactic(auto)]
+
 ghost use Rattle.std.specs.Prelude.{◌≡◌, [], ◌∷◌, ◌++◌, true, false, T, eqb, length, take, drop, replicate, ◌+◌, ◌*◌, ◌%◌, ◌<◌, ◌≤◌};
 ghost use Rattle.term_spec.specs.Words.{count};
 ghost use Rattle.term_spec.specs.Term.{term_layout, run_layout};
@@ -12,7 +14,7 @@ use sheet_form::{Counts, LineForm};
 use words::refusal;
 
 // What writing answers: the bytes written, or a refusal.
-#[derive(Drop)]
+#[derive(Clone, Copy)]
 pub enum Written {
     Bytes(usize),
     Refused(usize),

@@ -1,5 +1,7 @@
 // One record of a pattern at one place of the walk. From matcher.rs (`match_all_from` and `rigid_run_matches`, record by record). Nothing here
 // recurses.
+#![tactic(auto)]
+
 ghost use Rattle.std.specs.Prelude.{◌≡◌, List, [], ◌∷◌, ◌++◌, Bool, true, ℕ, ◌+◌, ◌*◌, ◌<◌, ◌≤◌, T, get_or, set, drop};
 ghost use Rattle.term_spec.specs.Words.{Lies};
 ghost use Rattle.term_spec.specs.Term.{limit, run_layout, no_run};
@@ -19,7 +21,7 @@ use words::Run;
 
 // Where the walk stands: what is left of the innermost level, how many levels are around it, and how many entries are known. The runs of
 // these levels (the outermost first) and entries are in lent words, two to a run: nothing large goes by value.
-#[derive(Drop)]
+#[derive(Clone, Copy)]
 pub struct State {
     pub start: usize,
     pub len: usize,
@@ -34,7 +36,7 @@ pub const LEVEL_WORDS: usize = (items::NESTING_LIMIT + 1) * words::RUN_WIDTH;
 pub const ENTRY_WORDS: usize = items::NAME_LIMIT * words::RUN_WIDTH;
 
 // What a record does, its turn: nothing fits, it goes on, it is split, it is a Call or Block.
-#[derive(Drop)]
+#[derive(Clone, Copy)]
 pub enum What {
     Stop,
     Next,
@@ -43,7 +45,7 @@ pub enum What {
 }
 
 // A turn taken: what the record does, and where the walk stands after it.
-#[derive(Drop)]
+#[derive(Clone, Copy)]
 pub struct Turned {
     pub what: What,
     pub state: State,

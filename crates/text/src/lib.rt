@@ -1,5 +1,7 @@
 // Texts: parts of the names, what they spell, and comparing them. `lower` and `same_numbers` alone know how a letter is lowered and how two
 // numbers compare.
+#![tactic(auto)]
+
 ghost use Rattle.std.specs.Prelude.{◌≡◌, true, false, ◌+◌, ◌<◌, ◌≤◌, length};
 ghost use Rattle.term_spec.specs.Text.{spec_is_letter, spec_is_digit, spec_is_name_byte, every, is_zero, lower as lowered, text_at, text_rule};
 ghost use Rattle.text.specs.Texts.{byte_test, spelled, spelling, texts_equal, identifiers_equal, numbers_equal};

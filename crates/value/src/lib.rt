@@ -1,5 +1,7 @@
 // Terms in code: the rules of a term store, equality of symbols, literals against terms. From value.rs (`Value`, equality) and matcher.rs
 // (`symbol_matches`); records and their rules are the port's. Equality of terms and runs is in crate equality.
+#![tactic(auto)]
+
 ghost use Rattle.std.specs.Prelude.{◌≡◌, [], ◌+◌, ◌*◌, ◌/◌, ◌<◌, ◌≤◌, max, length};
 ghost use Rattle.term_spec.specs.Words.{Lies, decode};
 ghost use Rattle.term_spec.specs.Term.{term_layout, bracket_kind, limit, depth_limit, is_scalar, depth_k, deepest as deepestOf};
@@ -109,7 +111,7 @@ fn enter(low: &mut [u8], high: &mut [u8], i: usize, t: Term)
 }
 
 // The first terms of a run: how many, and their deepest bracket.
-#[derive(Drop)]
+#[derive(Clone, Copy)]
 struct Part {
     len: usize,
     deep: usize,

@@ -1,4 +1,6 @@
 // View fields in code: the field, the checks that every call makes, and the calls. From value.rs (`ViewField`); refusals are the port's.
+#![tactic(auto)]
+
 ghost use Rattle.std.specs.Prelude.{◌≡◌, ◌&&◌, leb, ◌+◌, ◌≤◌, min};
 ghost use Rattle.term_spec.specs.Words.{Lies, whole, records};
 ghost use Rattle.term_spec.specs.Term.{run_layout, limit};
@@ -13,7 +15,7 @@ ghost use Rattle.view.specs.Check.{as_field, store_of, checked, numbered, answer
 use words::refusal;
 
 // A field: the first len terms of a node.
-#[derive(Drop)]
+#[derive(Clone, Copy)]
 pub struct Field {
     pub node: usize,
     pub len: usize,
@@ -39,7 +41,7 @@ impl Field {
 }
 
 // What a call that hands back a field answers.
-#[derive(Drop)]
+#[derive(Clone, Copy)]
 pub enum Answer {
     Built(Field),
     Refused(usize),

@@ -1,5 +1,7 @@
 // The calls that read fields: starts_with, equality and flatten; and settling for the listing. From value.rs (`ViewField::starts_with`,
 // equality of fields, `Flat`); refusals are the port's.
+#![tactic(auto)]
+
 ghost use Rattle.std.specs.Prelude.{◌≡◌, ℕ, ◌+◌, ◌<◌, ◌≤◌};
 ghost use Rattle.term_spec.specs.Words.{Lies, decode};
 ghost use Rattle.term_spec.specs.Term.{term_layout, limit};
@@ -17,7 +19,7 @@ use words::{Run, refusal};
 // ---- comparing ----
 
 // What a call that compares answers.
-#[derive(Drop)]
+#[derive(Clone, Copy)]
 pub enum Verdict {
     Yes,
     No,
@@ -79,7 +81,7 @@ pub fn equal(
 // ---- flatten and settling: the same choice ----
 
 // Where a field's terms stand in one run: in the store, or nowhere yet.
-#[derive(Drop)]
+#[derive(Clone, Copy)]
 pub enum Place {
     Stored(Run),
     Scattered,
@@ -107,7 +109,7 @@ fn place_of(nodes: &[u32], f: Field) -> Place
 }
 
 // Where flatten found or put the terms.
-#[derive(Drop)]
+#[derive(Clone, Copy)]
 pub enum Flat {
     InStore(Run),
     InWork(usize),
@@ -182,7 +184,7 @@ pub fn flat_part<'a>(terms: &'a [u32], work: &'a [u32], flat: Flat) -> &'a [u32]
 }
 
 // What settling answers: the run, or 13 TermsFull.
-#[derive(Drop)]
+#[derive(Clone, Copy)]
 pub enum Settled {
     At(Run),
     Refused(usize),

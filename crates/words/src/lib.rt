@@ -1,4 +1,6 @@
 // Records of words in lent slices, as structs by value. `word` and `set_word` alone see words and casts.
+#![tactic(auto)]
+
 pub mod refusal;
 
 ghost use Rattle.std.specs.Prelude.{◌≡◌, [], ◌∷◌, ◌+◌, ◌*◌, ◌<◌, ◌≤◌, ◌^◌, length, get_or, set};
@@ -8,7 +10,7 @@ ghost use Rattle.view_spec.specs.Node.{node_layout};
 ghost use Rattle.words.specs.Records.{as_term, Small, as_node, SmallNode, as_run};
 
 // One term, its words widened.
-#[derive(Drop)]
+#[derive(Clone, Copy)]
 pub struct Term {
     pub kind: usize,
     pub a: usize,
@@ -18,7 +20,7 @@ pub struct Term {
 }
 
 // One node, its words widened.
-#[derive(Drop)]
+#[derive(Clone, Copy)]
 pub struct Node {
     pub kind: usize,
     pub a: usize,
@@ -29,7 +31,7 @@ pub struct Node {
 }
 
 // A run of terms: its start and its length, widened.
-#[derive(Drop)]
+#[derive(Clone, Copy)]
 pub struct Run {
     pub start: usize,
     pub len: usize,

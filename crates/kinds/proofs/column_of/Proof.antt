@@ -5,15 +5,15 @@ use Rattle.kinds.specs.KindLaws.{column_low, column_none, column_some}
 use Rattle.kinds.proofs.column_of.Statement.{statement}
 use Rattle.kinds.proofs.column_of.Tie as tie
 
-returns : tie.Need-returns
+returns : tie.Need-returns-then-t-lt-UNKNOWN
 unfolding spec_column_of
 returns c = column_low _ _ (search rules)
 
-returns_2 : tie.Need-returns-2
+returns_2 : tie.Need-returns-then-t-gt-EXPRESSION
 unfolding spec_column_of
 returns_2 c = column_none _ _ (search rules) (search rules)
 
-returns_3 : tie.Need-returns-3
+returns_3 : tie.Need-returns
 unfolding spec_column_of
 returns_3 c = column_some _ _ (search rules) (search rules)
 

@@ -9,46 +9,46 @@ use Rattle.nodes.specs.RuleLaws.{below_at, concat-refused, concat-last}
 use Rattle.nodes.proofs.concat_ok.Statement.{statement}
 use Rattle.nodes.proofs.concat_ok.Tie as tie
 
-returns : tie.Need-returns
+returns : tie.Need-returns-then-i-n
 returns c = concat-refused _ _ _ (λ f. omega arith)
 
-returns_2 : tie.Need-returns-2
+returns_2 : tie.Need-returns-then-i-n-2
 returns_2 c = concat-refused _ _ _ (λ f. omega arith)
 
 -- the two nodes read, in the store
-left : (read : tie.After-get-node2)
+left : (read : tie.After-get_node-right)
     → let s = read.before.before.before.before.before.before.before.args in
-    as_node read.before.get-node.result ≡ node_at (nodes_in s.nodes.now s.i) s.n.a
-left read = below_at _ _ _ read.before.get-node.ensures (search rules)
+    as_node read.before.get_node-left.result ≡ node_at (nodes_in s.nodes.now s.i) s.n.a
+left read = below_at _ _ _ read.before.get_node-left.ensures (search rules)
 
-right : (read : tie.After-get-node2)
+right : (read : tie.After-get_node-right)
     → let s = read.before.before.before.before.before.before.before.args in
-    as_node read.get-node2.result ≡ node_at (nodes_in s.nodes.now s.i) s.n.c
-right read = below_at _ _ _ read.get-node2.ensures (search rules)
+    as_node read.get_node-right.result ≡ node_at (nodes_in s.nodes.now s.i) s.n.c
+right read = below_at _ _ _ read.get_node-right.ensures (search rules)
 
-returns_3 : tie.Need-returns-3
+returns_3 : tie.Need-returns-then-left-eq-NIL
 returns_3 c = concat-refused _ _ _ (λ f. omega (arith, ap (λ (n : Node). n.kind) (left c.before.before)))
 
-returns_4 : tie.Need-returns-4
+returns_4 : tie.Need-returns-then-right-eq-NIL
 returns_4 c = concat-refused _ _ _ (λ f. omega (arith, ap (λ (n : Node). n.kind) (right c.before.before.before.before)))
 
-returns_5 : tie.Need-returns-5
+returns_5 : tie.Need-returns-then-n-lt1
 returns_5 c = concat-refused _ _ _ (λ f. omega arith)
 
-returns_6 : tie.Need-returns-6
+returns_6 : tie.Need-returns-then-left-n
 returns_6 c = concat-refused _ _ _ (λ f. omega (arith, ap (λ (n : Node). n.reach) (left c.before.before.before.before.before.before.before.before.before)))
 
-returns_7 : tie.Need-returns-7
+returns_7 : tie.Need-returns-then-n-lt1-2
 returns_7 c = concat-refused _ _ _ (λ f. omega arith)
 
-returns_8 : tie.Need-returns-8
+returns_8 : tie.Need-returns-then-n-larger
 returns_8 c =
     let compared = c.before in
     let read = compared.before.before.before.before.before.before.before.before.before.before.before.before.before in
     concat-refused _ _ _
-    (λ f. c.if8.true (omega (arith, compared.larger.ensures, ap (λ (n : Node). n.height) (left read), ap (λ (n : Node). n.height) (right read))))
+    (λ f. c.if-n-larger.true (omega (arith, compared.larger.ensures, ap (λ (n : Node). n.height) (left read), ap (λ (n : Node). n.height) (right read))))
 
-returns_9 : tie.Need-returns-9
+returns_9 : tie.Need-returns
 returns_9 c =
     let same-height = c.before in
     let long-enough = same-height.before.before.before.before.before in
@@ -56,9 +56,9 @@ returns_9 c =
     let some_left = some_right.before.before in
     let read = some_left.before.before in
     let right_low = read.before.before in
-    concat-last _ _ _ right_low.before.before.if1.false right_low.if2.false (left read) (right read) (omega (arith, some_left.if3.false))
-    (omega (arith, some_right.if4.false)) long-enough.before.before.before.if5.false long-enough.if6.false
-    (omega (arith, same-height.before.before.before.if7.false, same-height.if8.false, same-height.before.larger.ensures)) c.reaches.ensures
+    concat-last _ _ _ right_low.before.before.if-i-n.false right_low.if-i-n-2.false (left read) (right read) (omega (arith, some_left.if-left-eq-NIL.false))
+    (omega (arith, some_right.if-right-eq-NIL.false)) long-enough.before.before.before.if-n-lt1.false long-enough.if-left-n.false
+    (omega (arith, same-height.before.before.before.if-n-lt1-2.false, same-height.if-n-larger.false, same-height.before.larger.ensures)) c.reaches.ensures
 
 pub concat_ok_spec : {M : Type 1} → statement M
 concat_ok_spec =

@@ -9,31 +9,31 @@ use Rattle.nodes.specs.RuleLaws.{below_at, cons-refused, cons-last}
 use Rattle.nodes.proofs.cons_ok.Statement.{statement}
 use Rattle.nodes.proofs.cons_ok.Tie as tie
 
-returns : tie.Need-returns
+returns : tie.Need-returns-then-n-lt1
 returns c = cons-refused _ _ _ _ (λ f. omega arith)
 
-returns_2 : tie.Need-returns-2
+returns_2 : tie.Need-returns-then-terms-n
 returns_2 c = cons-refused _ _ _ _ (λ f. omega arith)
 
-returns_3 : tie.Need-returns-3
+returns_3 : tie.Need-returns-then-terms-n-2
 returns_3 c = cons-refused _ _ _ _ (λ f. omega arith)
 
-returns_4 : tie.Need-returns-4
+returns_4 : tie.Need-returns-then-i-n
 returns_4 c = cons-refused _ _ _ _ (λ f. omega arith)
 
 -- the tail, in the store
-tail : (g : tie.After-get-node)
+tail : (g : tie.After-get_node-tail)
     → let s = g.before.before.before.before.before.before.before.before.before.before.before.args in
-    as_node g.get-node.result ≡ node_at (nodes_in s.nodes.now s.i) s.n.c
-tail g = below_at _ _ _ g.get-node.ensures (search rules)
+    as_node g.get_node-tail.result ≡ node_at (nodes_in s.nodes.now s.i) s.n.c
+tail g = below_at _ _ _ g.get_node-tail.ensures (search rules)
 
-returns_5 : tie.Need-returns-5
+returns_5 : tie.Need-returns-then-tail-gt-CONS
 returns_5 c = cons-refused _ _ _ _ (λ f. omega (arith, ap (λ (n : Node). n.kind) (tail c.before.before)))
 
-returns_6 : tie.Need-returns-6
-returns_6 c = cons-refused _ _ _ _ (λ f. c.if6.true f.height1)
+returns_6 : tie.Need-returns-then-n-ne1
+returns_6 c = cons-refused _ _ _ _ (λ f. c.if-n-ne1.true f.height1)
 
-returns_7 : tie.Need-returns-7
+returns_7 : tie.Need-returns
 returns_7 c =
     let g = c.before.before.before.before.before in
     cons-last _ _ _ _ (search rules) (search rules) (search rules) (tail g) (search rules) (search rules) c.reaches.ensures

@@ -4,11 +4,11 @@ use Rattle.nodes.specs.RuleLaws.{field_out, field_in}
 use Rattle.nodes.proofs.field_ok.Statement.{statement}
 use Rattle.nodes.proofs.field_ok.Tie as tie
 
-returns : tie.Need-returns
+returns : tie.Need-returns-then-used-node
 returns c = field_out _ _ _ _ (search rules)
 
-returns_2 : tie.Need-returns-2
-returns_2 c = field_in _ _ _ _ c.before.before.if1.false c.before.get-node.ensures
+returns_2 : tie.Need-returns
+returns_2 c = field_in _ _ _ _ c.before.before.if-used-node.false c.before.get_node-n.ensures
 
 pub field_ok_spec : {M : Type 1} → statement M
 field_ok_spec = tie.close (tie.spec returns (λ c κs. search rules) returns_2)

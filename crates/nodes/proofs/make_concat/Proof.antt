@@ -7,27 +7,27 @@ use Rattle.nodes.proofs.make_concat.Statement.{statement}
 use Rattle.nodes.proofs.make_concat.Tie as tie
 
 -- the two nodes read, in the store
-left : (read : tie.After-get-node2)
+left : (read : tie.After-get_node-right)
     → let a = read.before.before.before.before.before.args in
-    Known a.nodes.now a.used a.a (as_node read.before.before.get-node.result)
+    Known a.nodes-1.now a.used a.a (as_node read.before.before.get_node-left.result)
 left read =
     let start = read.before.before.before.before.before in
-    known _ _ _ start.requires.0.store _ (search rules) read.before.before.get-node.ensures
+    known _ _ _ start.requires.0.store _ (search rules) read.before.before.get_node-left.ensures
 
-right : (read : tie.After-get-node2)
+right : (read : tie.After-get_node-right)
     → let a = read.before.before.before.before.before.args in
-    Known a.nodes.now a.used a.c (as_node read.get-node2.result)
+    Known a.nodes-1.now a.used a.c (as_node read.get_node-right.result)
 right read =
     let start = read.before.before.before.before.before in
-    known _ _ _ start.requires.0.store _ (search rules) read.get-node2.ensures
+    known _ _ _ start.requires.0.store _ (search rules) read.get_node-right.ensures
 
-add_t14 : tie.Need-overflow-add-t14
+add_t14 : tie.Need-overflow_add-n
 add_t14 c = let l = left c.before in let r = right c.before in omega arith
 
-reach_of_requires : tie.Need-reach-of-requires
+reach_of_requires : tie.Need-reach_of-requires
 reach_of_requires c κs = let r = right c.before in omega arith
 
-put_node_requires : tie.Need-put-node-requires
+put_node_requires : tie.Need-put_node-requires
 put_node_requires c κs = let l = left c.before.before.before in let r = right c.before.before.before in search rules
 
 returns : tie.Need-returns
@@ -36,7 +36,7 @@ returns c =
     let reach = put.before.before in
     let height = reach.before in
     let read = height.before in
-    concat_made _ _ _ _ _ (left read) (right read) height.larger.ensures reach.reach_of.ensures put.put-node.ensures
+    concat_made _ _ _ _ _ (left read) (right read) height.larger.ensures reach.reach_of.ensures put.put_node.ensures
 
 pub make_concat_spec : {M : Type 1} → statement M
 make_concat_spec =

@@ -7,19 +7,19 @@ use Rattle.nodes.proofs.make_cons.Statement.{statement}
 use Rattle.nodes.proofs.make_cons.Tie as tie
 
 -- the tail, in the store
-tail : (read : tie.After-get-node)
+tail : (read : tie.After-get_node-tail)
     → let a = read.before.before.before.args in
-    Known a.nodes.now a.used a.c (as_node read.get-node.result)
-tail read = let start = read.before.before.before in known _ _ _ start.requires.0.store _ (search rules) read.get-node.ensures
+    Known a.nodes-1.now a.used a.c (as_node read.get_node-tail.result)
+tail read = let start = read.before.before.before in known _ _ _ start.requires.0.store _ (search rules) read.get_node-tail.ensures
 
-reach_of_requires : tie.Need-reach-of-requires
+reach_of_requires : tie.Need-reach_of-requires
 reach_of_requires c κs = let t = tail c in omega arith
 
 returns : tie.Need-returns
 returns c =
     let put = c.before.before in
     let reach = put.before.before in
-    cons_made _ _ _ _ _ (tail reach.before) reach.reach_of.ensures put.put-node.ensures
+    cons_made _ _ _ _ _ (tail reach.before) reach.reach_of.ensures put.put_node.ensures
 
 pub make_cons_spec : {M : Type 1} → statement M
 make_cons_spec =

@@ -9,32 +9,32 @@ use Rattle.nodes.specs.RuleLaws.{rest_rule, nodes_empty, rest_all, rest_more, re
 use Rattle.nodes.proofs.nodes_ok.Statement.{statement}
 use Rattle.nodes.proofs.nodes_ok.Tie as tie
 
-abbrev invariant_loop : tie.invariant_loop
+abbrev invariant_loop : tie.invariant-loop-i
 invariant_loop nodes terms used i₀ i = (i ≤ used) × (nodes_rule terms (nodes_in nodes used) ≡ rest_rule nodes terms used i)
 
-abbrev decreases_loop : tie.decreases_loop
+abbrev decreases_loop : tie.decreases-loop-i
 decreases_loop nodes terms used i₀ i = used - i
 
-returns : tie.Need-returns invariant_loop decreases_loop
+returns : tie.Need-returns-then-used-lt1 invariant_loop decreases_loop
 returns c = nodes_empty _ _ _ (search rules)
 
-loop_holds : tie.Need-loop-init invariant_loop decreases_loop
-loop_holds c = (search rules, rest_all _ _ _ c.if1.false)
+loop_holds : tie.Need-loop-i-init invariant_loop decreases_loop
+loop_holds c = (search rules, rest_all _ _ _ c.if-used-lt1.false)
 
-returns_2 : tie.Need-returns-2 invariant_loop decreases_loop
+returns_2 : tie.Need-returns-then-not-node_ok invariant_loop decreases_loop
 returns_2 c =
-    let b = sym c.before.Node-Ok.ensures ∙ not-true _ c.if2.true in
-    sym (c.before.before.before.loop.invariant.1 ∙ rest_more _ _ _ _ (search rules) b)
+    let b = sym c.before.node_ok.ensures ∙ not-true _ c.if-not-node_ok.true-raw in
+    sym (c.before.before.before.loop-i.invariant.1 ∙ rest_more _ _ _ _ (search rules) b)
 
-loop_again : tie.Need-loop-preserved invariant_loop decreases_loop
+loop_again : tie.Need-loop-i-preserved invariant_loop decreases_loop
 loop_again c =
-    let b = sym c.before.Node-Ok.ensures ∙ not-false _ c.if2.false in
-    (search rules, c.before.before.before.loop.invariant.1 ∙ rest_more _ _ _ _ (search rules) b)
+    let b = sym c.before.node_ok.ensures ∙ not-false _ c.if-not-node_ok.false-raw in
+    (search rules, c.before.before.before.loop-i.invariant.1 ∙ rest_more _ _ _ _ (search rules) b)
 
-returns_3 : tie.Need-returns-3 invariant_loop decreases_loop
+returns_3 : tie.Need-returns invariant_loop decreases_loop
 returns_3 c =
-    let e : c.before.loop.i ≡ c.before.before.before.before.args.used = search rules in
-    sym (c.before.loop.invariant.1 ∙ ap (rest_rule _ _ _) e ∙ rest_none _ _ _)
+    let e : c.before.loop-i.i ≡ c.before.before.before.before.args.used = search rules in
+    sym (c.before.loop-i.invariant.1 ∙ ap (rest_rule _ _ _) e ∙ rest_none _ _ _)
 
 pub nodes_ok_spec : {M : Type 1} → statement M
 nodes_ok_spec =

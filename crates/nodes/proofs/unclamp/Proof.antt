@@ -9,51 +9,51 @@ use Rattle.nodes.specs.MakeLaws.{unclamp_here, unclamp-short, unclamp-left}
 use Rattle.nodes.proofs.unclamp.Statement.{statement}
 use Rattle.nodes.proofs.unclamp.Tie as tie
 
-abbrev invariant_loop : tie.invariant_loop
+abbrev invariant_loop : tie.invariant-loop-n
 invariant_loop nodes node len at₀ at =
     (at ≤ node) × ((used : ℕ) → AnyStore nodes used → node < used → unclamp (nodes_in nodes used) at len ≡ unclamp (nodes_in nodes used) node len)
 
-abbrev decreases_loop : tie.decreases_loop
+abbrev decreases_loop : tie.decreases-loop-n
 decreases_loop nodes node len at₀ at = at
 
-loop_holds : tie.Need-loop-init invariant_loop decreases_loop
+loop_holds : tie.Need-loop-n-init invariant_loop decreases_loop
 loop_holds c = (search rules, λ used store low. refl)
 
-get_node_requires : tie.Need-get-node-requires invariant_loop decreases_loop
-get_node_requires c κs = let asked = c.before.before.requires in omega (arith, asked.store.store.fits, asked.low, c.loop.invariant.0)
+get_node_requires : tie.Need-get_node-n-requires invariant_loop decreases_loop
+get_node_requires c κs = let asked = c.before.before.requires in omega (arith, asked.store.store.fits, asked.low, c.loop-n.invariant.0)
 
-returns : tie.Need-returns invariant_loop decreases_loop
+returns : tie.Need-returns-then-n-ne-CONCAT invariant_loop decreases_loop
 returns c =
     let read = c.before.before in
-    let inv = read.before.loop.invariant in
-    (inv.0, λ used store low. sym (unclamp_here _ _ _ store.store _ _ (omega (arith, inv.0)) read.get-node.ensures c.if1.true) ∙ inv.1 used store low)
+    let inv = read.before.loop-n.invariant in
+    (inv.0, λ used store low. sym (unclamp_here _ _ _ store.store _ _ (omega (arith, inv.0)) read.get_node-n.ensures c.if-n-ne-CONCAT.true) ∙ inv.1 used store low)
 
-returns_2 : tie.Need-returns-2 invariant_loop decreases_loop
+returns_2 : tie.Need-returns-then-n-len invariant_loop decreases_loop
 returns_2 c =
     let concat = c.before.before in
     let read = concat.before.before in
-    let inv = read.before.loop.invariant in (
+    let inv = read.before.loop-n.invariant in (
       inv.0,
       λ used store low.
-          sym (unclamp-short _ _ _ store.store _ _ (omega (arith, inv.0)) read.get-node.ensures concat.if1.false c.if2.true) ∙ inv.1 used store low,
+          sym (unclamp-short _ _ _ store.store _ _ (omega (arith, inv.0)) read.get_node-n.ensures concat.if-n-ne-CONCAT.false c.if-n-len.true) ∙ inv.1 used store low,
     )
 
-loop_less : tie.Need-loop-smaller invariant_loop decreases_loop
+loop_less : tie.Need-loop-n-smaller invariant_loop decreases_loop
 loop_less c =
     let concat = c.before.before in
     let read = concat.before.before in
     let at-loop = read.before in
     let asked = at-loop.before.before.requires in
-    (unclamp-left _ _ _ asked.store.store _ _ (omega (arith, asked.low, at-loop.loop.invariant.0)) read.get-node.ensures concat.if1.false c.if2.false).0
+    (unclamp-left _ _ _ asked.store.store _ _ (omega (arith, asked.low, at-loop.loop-n.invariant.0)) read.get_node-n.ensures concat.if-n-ne-CONCAT.false c.if-n-len.false).0
 
-loop_again : tie.Need-loop-preserved invariant_loop decreases_loop
+loop_again : tie.Need-loop-n-preserved invariant_loop decreases_loop
 loop_again c =
     let concat = c.before.before in
     let read = concat.before.before in
-    let inv = read.before.loop.invariant in (
+    let inv = read.before.loop-n.invariant in (
       omega (arith, inv.0, loop_less c),
       λ used store low.
-          sym (unclamp-left _ _ _ store.store _ _ (omega (arith, inv.0)) read.get-node.ensures concat.if1.false c.if2.false).1 ∙ inv.1 used store low,
+          sym (unclamp-left _ _ _ store.store _ _ (omega (arith, inv.0)) read.get_node-n.ensures concat.if-n-ne-CONCAT.false c.if-n-len.false).1 ∙ inv.1 used store low,
     )
 
 pub unclamp_spec : {M : Type 1} → statement M

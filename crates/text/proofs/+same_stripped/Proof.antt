@@ -30,50 +30,50 @@ stripped-below t = and 1 stripped-kinds.ps (falls 1 stripped-kinds.ps ◌<◌ μ
 abbrev Callees : ℕ → stripped-lts.Claims
 Callees t = (stripped-below t, stripped.Post, all-zeros-reads.Asked, all-zeros-reads.Learnt, equal-bytes-reads.Asked, equal-bytes-reads.Learnt)
 
-returns : (t : ℕ) → stripped-lts.Need-returns (Callees t) (stripped-at t) stripped.Post
+returns : (t : ℕ) → stripped-lts.Need-returns-then-names-p-ne48 (Callees t) (stripped-at t) stripped.Post
 returns t c =
     let at-if1 = c.before.before in
     let pre = at-if1.before.before.requires.1 in
-    sym (numbers_sym _ _ ∙ numbers_digit _ _ _ _ _ pre.1 pre.0 at-if1.if1.true c.if2.true)
+    sym (numbers_sym _ _ ∙ numbers_digit _ _ _ _ _ pre.1 pre.0 at-if1.if-n-m.true c.if-names-p-ne48.true)
 
-requires_swapped : (t : ℕ) → stripped-lts.Need-same-stripped-requires (Callees t) (stripped-at t) stripped.Post
+requires_swapped : (t : ℕ) → stripped-lts.Need-same_stripped-requires (Callees t) (stripped-at t) stripped.Post
 requires_swapped t c κs =
     let at-if1 = c.before.before in
     let pre = at-if1.before.before.requires in
-    (omega (arith, pre.0, at-if1.if1.true), (pre.1.1, pre.1.0, λ e. pre.1.2 (sym e)))
+    (omega (arith, pre.0, at-if1.if-n-m.true), (pre.1.1, pre.1.0, λ e. pre.1.2 (sym e)))
 
-returns_2 : (t : ℕ) → stripped-lts.Need-returns-2 (Callees t) (stripped-at t) stripped.Post
-returns_2 t c = c.same-stripped.ensures ∙ numbers_sym _ _
+returns_2 : (t : ℕ) → stripped-lts.Need-returns-then-n-m (Callees t) (stripped-at t) stripped.Post
+returns_2 t c = c.same_stripped.ensures ∙ numbers_sym _ _
 
 -- the first text is the longer
-longer : (t : ℕ) (c : stripped-lts.Else1 (Callees t) (stripped-at t) stripped.Post) → let given = c.before.before.args in given.m < given.n
-longer t c = omega (arith, c.before.before.requires.1.2, c.if1.false)
+longer : (t : ℕ) (c : stripped-lts.Else-n-m (Callees t) (stripped-at t) stripped.Post) → let given = c.before.before.args in given.m < given.n
+longer t c = omega (arith, c.before.before.requires.1.2, c.if-n-m.false)
 
-returns_3 : (t : ℕ) → stripped-lts.Need-returns-3 (Callees t) (stripped-at t) stripped.Post
+returns_3 : (t : ℕ) → stripped-lts.Need-returns-then-m-eq0 (Callees t) (stripped-at t) stripped.Post
 returns_3 t c =
     let at-if1 = c.before in
     let pre = at-if1.before.before.requires.1 in
-    sym (numbers_empty _ _ _ _ _ pre.0 pre.1 (longer t at-if1) c.if3.true)
+    sym (numbers_empty _ _ _ _ _ pre.0 pre.1 (longer t at-if1) c.if-m-eq0.true)
 
-returns_4 : (t : ℕ) → stripped-lts.Need-returns-4 (Callees t) (stripped-at t) stripped.Post
+returns_4 : (t : ℕ) → stripped-lts.Need-returns-then-not-all_zeros (Callees t) (stripped-at t) stripped.Post
 returns_4 t c =
     let at-zeros = c.before in
     let at-if1 = at-zeros.before.before in
     let pre = at-if1.before.before.requires.1 in
-    sym (numbers_apart _ _ _ _ _ pre.0 pre.1 (longer t at-if1) (sym at-zeros.all-zeros.ensures ∙ not-true _ c.if4.true))
+    sym (numbers_apart _ _ _ _ _ pre.0 pre.1 (longer t at-if1) (sym at-zeros.all_zeros.ensures ∙ not-true _ c.if-not-all_zeros.true-raw))
 
-returns_5 : (t : ℕ) → stripped-lts.Need-returns-5 (Callees t) (stripped-at t) stripped.Post
+returns_5 : (t : ℕ) → stripped-lts.Need-returns (Callees t) (stripped-at t) stripped.Post
 returns_5 t c =
     let at-if4 = c.before in
     let at-zeros = at-if4.before in
     let at-if3 = at-zeros.before in
     let at-if1 = at-if3.before in
     let pre = at-if1.before.before.requires.1 in
-    let zeros = sym at-zeros.all-zeros.ensures ∙ not-false _ at-if4.if4.false in
-    c.equal-bytes.ensures ∙ sym (numbers_left _ _ _ _ _ pre.0 pre.1 (longer t at-if1) at-if3.if3.false zeros)
+    let zeros = sym at-zeros.all_zeros.ensures ∙ not-false _ at-if4.if-not-all_zeros.false-raw in
+    c.equal_bytes.ensures ∙ sym (numbers_left _ _ _ _ _ pre.0 pre.1 (longer t at-if1) at-if3.if-m-eq0.false zeros)
 
-pub +same-stripped-spec : {M : Type 1} → statement M
-+same-stripped-spec =
+pub +same_stripped_spec : {M : Type 1} → statement M
++same_stripped_spec =
     close
     μ-stripped
     (λ t.

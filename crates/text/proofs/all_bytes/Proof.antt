@@ -10,32 +10,32 @@ use borrow.Author.Rules.{rules}
 use Rattle.text.proofs.all_bytes.Statement.{statement}
 use Rattle.text.proofs.all_bytes.Tie as tie
 
-abbrev invariant_loop : tie.invariant_loop
+abbrev invariant_loop : tie.invariant-loop-i
 invariant_loop names digits o n i₀ i = (i ≤ n) × (spelled digits (text_at names o n) ≡ spelled digits (left names o n i))
 
-abbrev decreases_loop : tie.decreases_loop
+abbrev decreases_loop : tie.decreases-loop-i
 decreases_loop names digits o n i₀ i = n - i
 
-loop_holds : tie.Need-loop-init invariant_loop decreases_loop
+loop_holds : tie.Need-loop-i-init invariant_loop decreases_loop
 loop_holds c = (omega arith, ap (spelled _) (left-all _ _ _))
 
-returns : tie.Need-returns invariant_loop decreases_loop
+returns : tie.Need-returns-then-not-fits_byte invariant_loop decreases_loop
 unfolding spelled
 returns c =
     let t = c.before.before.before in
-    let e = sym c.before.Fits-byte.ensures ∙ not-true _ c.if1.true in
-    sym (t.before.loop.invariant.1 ∙ every_more _ _ _ _ _ t.loop-test.true t.before.before.before.requires e)
+    let e = sym c.before.fits_byte.ensures ∙ not-true _ c.if-not-fits_byte.true-raw in
+    sym (t.before.loop-i.invariant.1 ∙ every_more _ _ _ _ _ t.loop-i-test.true t.before.before.before.requires e)
 
-loop_again : tie.Need-loop-preserved invariant_loop decreases_loop
+loop_again : tie.Need-loop-i-preserved invariant_loop decreases_loop
 unfolding spelled
 loop_again c =
     let t = c.before.before.before in
-    let e = sym c.before.Fits-byte.ensures ∙ not-false _ c.if1.false in
-    (omega arith, t.before.loop.invariant.1 ∙ every_more _ _ _ _ _ t.loop-test.true t.before.before.before.requires e)
+    let e = sym c.before.fits_byte.ensures ∙ not-false _ c.if-not-fits_byte.false-raw in
+    (omega arith, t.before.loop-i.invariant.1 ∙ every_more _ _ _ _ _ t.loop-i-test.true t.before.before.before.requires e)
 
-returns_2 : tie.Need-returns-2 invariant_loop decreases_loop
+returns_2 : tie.Need-returns invariant_loop decreases_loop
 unfolding spelled
-returns_2 c = sym (c.before.loop.invariant.1 ∙ every_none _ _ _ _ _ c.loop-test.false)
+returns_2 c = sym (c.before.loop-i.invariant.1 ∙ every_none _ _ _ _ _ c.loop-i-test.false)
 
 pub all_bytes_spec : {M : Type 1} → statement M
 all_bytes_spec =

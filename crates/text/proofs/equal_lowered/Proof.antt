@@ -11,44 +11,44 @@ use Rattle.text.specs.LowerTable.{lowered_bytes}
 use Rattle.text.proofs.equal_lowered.Statement.{statement}
 use Rattle.text.proofs.equal_lowered.Tie as tie
 
-abbrev invariant_loop : tie.invariant_loop
+abbrev invariant_loop : tie.invariant-loop-i
 invariant_loop names o p n chart i₀ i =
     (i ≤ n) × (texts_equal true (text_at names o n) (text_at names p n) ≡ texts_equal true (left names o n i) (left names p n i))
 
-abbrev decreases_loop : tie.decreases_loop
+abbrev decreases_loop : tie.decreases-loop-i
 decreases_loop names o p n chart i₀ i = n - i
 
-loop_holds : tie.Need-loop-init invariant_loop decreases_loop
+loop_holds : tie.Need-loop-i-init invariant_loop decreases_loop
 loop_holds c = (omega arith, ap₂ (texts_equal _) (left-all _ _ _) (left-all _ _ _))
 
-lower_requires : tie.Need-lower-requires invariant_loop decreases_loop
+lower_requires : tie.Need-lower-c-requires invariant_loop decreases_loop
 unfolding lowered_bytes
 lower_requires c κs = refl
 
-lower_requires_2 : tie.Need-lower-requires-2 invariant_loop decreases_loop
+lower_requires_2 : tie.Need-lower-d-requires invariant_loop decreases_loop
 unfolding lowered_bytes
 lower_requires_2 c κs = refl
 
-returns : tie.Need-returns invariant_loop decreases_loop
+returns : tie.Need-returns-then-c-d invariant_loop decreases_loop
 unfolding folded
 returns c =
     let at-lower = c.before.before.before.before in
     let at_test = at-lower.before.before.before in
     let pre = at_test.before.before.before.requires in
-    sym (at_test.before.loop.invariant.1 ∙ same_stop _ _ _ _ _ _ at_test.loop-test.true pre.0 pre.1
-    (λ e. c.if1.true (at-lower.lower.ensures ∙ e ∙ sym c.before.lower2.ensures)))
+    sym (at_test.before.loop-i.invariant.1 ∙ same_stop _ _ _ _ _ _ at_test.loop-i-test.true pre.0 pre.1
+    (λ e. c.if-c-d.true (at-lower.lower-c.ensures ∙ e ∙ sym c.before.lower-d.ensures)))
 
-loop_again : tie.Need-loop-preserved invariant_loop decreases_loop
+loop_again : tie.Need-loop-i-preserved invariant_loop decreases_loop
 unfolding folded
 loop_again c =
     let at-lower = c.before.before.before.before in
     let at_test = at-lower.before.before.before in
     let pre = at_test.before.before.before.requires in
-    let e = sym at-lower.lower.ensures ∙ c.if1.false ∙ c.before.lower2.ensures in
-    (omega arith, at_test.before.loop.invariant.1 ∙ same_more _ _ _ _ _ _ at_test.loop-test.true pre.0 pre.1 e)
+    let e = sym at-lower.lower-c.ensures ∙ c.if-c-d.false ∙ c.before.lower-d.ensures in
+    (omega arith, at_test.before.loop-i.invariant.1 ∙ same_more _ _ _ _ _ _ at_test.loop-i-test.true pre.0 pre.1 e)
 
-returns_2 : tie.Need-returns-2 invariant_loop decreases_loop
-returns_2 c = sym (c.before.loop.invariant.1 ∙ same_none _ _ _ _ _ _ c.loop-test.false)
+returns_2 : tie.Need-returns invariant_loop decreases_loop
+returns_2 c = sym (c.before.loop-i.invariant.1 ∙ same_none _ _ _ _ _ _ c.loop-i-test.false)
 
 pub equal_lowered_spec : {M : Type 1} → statement M
 equal_lowered_spec =

@@ -5,11 +5,11 @@ use Rattle.term_spec.specs.Text.{spec_is_digit}
 use Rattle.text.proofs.is_digit.Statement.{statement}
 use Rattle.text.proofs.is_digit.Tie as tie
 
-returns : tie.Need-returns
+returns : tie.Need-returns-then-c-lt48
 unfolding spec_is_digit
 returns c = simp (lt-leb 48 c.before.args.c (omega arith))
 
-returns_2 : tie.Need-returns-2
+returns_2 : tie.Need-returns
 unfolding spec_is_digit
 returns_2 c = simp (le-leb 48 c.before.args.c (omega arith))
 

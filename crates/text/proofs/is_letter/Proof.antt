@@ -5,19 +5,19 @@ use Rattle.term_spec.specs.Text.{spec_is_letter}
 use Rattle.text.proofs.is_letter.Statement.{statement}
 use Rattle.text.proofs.is_letter.Tie as tie
 
-returns : tie.Need-returns
+returns : tie.Need-returns-then-c-lt65
 unfolding spec_is_letter
 returns c = let x = c.before.args.c in simp (lt-leb 65 x (omega arith), lt-leb 97 x (omega arith))
 
-returns_2 : tie.Need-returns-2
+returns_2 : tie.Need-returns-then-c-le90
 unfolding spec_is_letter
 returns_2 c = let x = c.before.before.args.c in simp (le-leb 65 x (omega arith), le-leb x 90 (omega arith))
 
-returns_3 : tie.Need-returns-3
+returns_3 : tie.Need-returns-then-c-lt97
 unfolding spec_is_letter
 returns_3 c = let x = c.before.before.before.args.c in simp (lt-leb x 90 (omega arith), le-leb 65 x (omega arith), lt-leb 97 x (omega arith))
 
-returns_4 : tie.Need-returns-4
+returns_4 : tie.Need-returns
 unfolding spec_is_letter
 returns_4 c = let x = c.before.before.before.args.c in simp (lt-leb x 90 (omega arith), le-leb 65 x (omega arith), le-leb 97 x (omega arith))
 

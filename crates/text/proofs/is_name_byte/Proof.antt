@@ -6,25 +6,25 @@ use borrow.Author.Rules.{rules}
 use Rattle.text.proofs.is_name_byte.Statement.{statement}
 use Rattle.text.proofs.is_name_byte.Tie as tie
 
-returns : tie.Need-returns
+returns : tie.Need-returns-then-is_letter
 unfolding spec_is_name_byte
-returns c = simp (sym c.before.is-letter.ensures ∙ c.if1.true)
+returns c = simp (sym c.before.is_letter.ensures ∙ c.if-is_letter.true)
 
-returns_2 : tie.Need-returns-2
+returns_2 : tie.Need-returns-then-is_digit
 unfolding spec_is_name_byte
-returns_2 c = simp (sym c.before.before.before.is-letter.ensures ∙ c.before.before.if1.false, sym c.before.is_digit.ensures ∙ c.if2.true)
+returns_2 c = simp (sym c.before.before.before.is_letter.ensures ∙ c.before.before.if-is_letter.false, sym c.before.is_digit.ensures ∙ c.if-is_digit.true)
 
-returns_3 : tie.Need-returns-3
+returns_3 : tie.Need-returns-then-c-eq45
 unfolding spec_is_name_byte
 returns_3 c =
     let d = c.before.before in
-    simp (sym d.before.before.is-letter.ensures ∙ d.before.if1.false, sym d.is_digit.ensures ∙ c.before.if2.false, eq-eqb _ _ c.if3.true)
+    simp (sym d.before.before.is_letter.ensures ∙ d.before.if-is_letter.false, sym d.is_digit.ensures ∙ c.before.if-is_digit.false, eq-eqb _ _ c.if-c-eq45.true)
 
-returns_4 : tie.Need-returns-4
+returns_4 : tie.Need-returns
 unfolding spec_is_name_byte
 returns_4 c =
     let d = c.before.before in
-    simp (sym d.before.before.is-letter.ensures ∙ d.before.if1.false, sym d.is_digit.ensures ∙ c.before.if2.false, ne_eqb _ _ c.if3.false)
+    simp (sym d.before.before.is_letter.ensures ∙ d.before.if-is_letter.false, sym d.is_digit.ensures ∙ c.before.if-is_digit.false, ne_eqb _ _ c.if-c-eq45.false)
 
 pub is_name_byte_spec : {M : Type 1} → statement M
 is_name_byte_spec =
