@@ -6,59 +6,50 @@ use Rattle.from_runs.specs.FuseLaws.{Counted, count-start, count_end, count_skip
 use Rattle.from_runs.proofs.from_runs_makes.Statement.{statement}
 use Rattle.from_runs.proofs.from_runs_makes.Tie as tie
 
-abbrev invariant_loop : tie.invariant_loop
+abbrev invariant_loop : tie.invariant-loop-i
 invariant_loop runs i₀ made₀ start₀ i made start = Counted runs i made start
 
-abbrev decreases_loop : tie.decreases_loop
+abbrev decreases_loop : tie.decreases-loop-i
 decreases_loop runs i₀ made₀ start₀ i made start = i
 
-loop_holds : tie.Need-loop-init invariant_loop decreases_loop
+loop_holds : tie.Need-loop-i-init invariant_loop decreases_loop
 loop_holds c = count-start _
 
-sub_i : tie.Need-overflow-sub-i invariant_loop decreases_loop
-sub_i c = omega (arith, c.loop-test.true)
+sub_i : tie.Need-overflow_sub-i invariant_loop decreases_loop
+sub_i c = omega (arith, c.loop-i-test.true)
 
-get_run_requires : tie.Need-get-run-requires invariant_loop decreases_loop
-get_run_requires c κs = omega (arith, c.loop-test.true, c.before.loop.invariant.within)
+get_run_requires : tie.Need-get_run-r-requires invariant_loop decreases_loop
+get_run_requires c κs = omega (arith, c.loop-i-test.true, c.loop-i.invariant.within)
 
-loop_less : tie.Need-loop-smaller invariant_loop decreases_loop
-loop_less c = let in-loop = c.before.before.before.before in omega (arith, in-loop.loop-test.true)
+loop_less : tie.Need-loop-i-smaller-in-Skip invariant_loop decreases_loop
+loop_less c = omega (arith, c.loop-i-test.true)
 
-loop_again : tie.Need-loop-preserved invariant_loop decreases_loop
+loop_again : tie.Need-loop-i-preserved-in-Skip invariant_loop decreases_loop
 loop_again c =
-    let at-step = c.before.before in
-    let read = at-step.before in
-    let in-loop = read.before in
-    let s = stepped_as _ _ _ c.enum_told.given.1 at-step.step_of_lem.ensures in
-    count_skip _ _ _ _ in-loop.before.loop.invariant in-loop.loop-test.true read.get-run.ensures s
+    let s = stepped_as _ _ _ c.in-Skip.is c.step_of.ensures in
+    count_skip _ _ _ _ c.loop-i.invariant c.loop-i-test.true c.get_run-r.ensures s
 
-loop_less_2 : tie.Need-loop-smaller-2 invariant_loop decreases_loop
-loop_less_2 c = let in-loop = c.before.before.before.before in omega (arith, in-loop.loop-test.true)
+loop_less_2 : tie.Need-loop-i-smaller-in-Fuse invariant_loop decreases_loop
+loop_less_2 c = omega (arith, c.loop-i-test.true)
 
-loop_again_2 : tie.Need-loop-preserved-2 invariant_loop decreases_loop
+loop_again_2 : tie.Need-loop-i-preserved-in-Fuse invariant_loop decreases_loop
 loop_again_2 c =
-    let at-step = c.before.before in
-    let read = at-step.before in
-    let in-loop = read.before in
-    let s = stepped_as _ _ _ c.enum-told2.given.1 at-step.step_of_lem.ensures in
-    count-fuse _ _ _ _ in-loop.before.loop.invariant in-loop.loop-test.true read.get-run.ensures s
+    let s = stepped_as _ _ _ c.in-Fuse.is c.step_of.ensures in
+    count-fuse _ _ _ _ c.loop-i.invariant c.loop-i-test.true c.get_run-r.ensures s
 
-add_made : tie.Need-overflow-add-made invariant_loop decreases_loop
-add_made c = let in-loop = c.before.before.before.before in omega (arith, in-loop.loop-test.true, in-loop.before.loop.invariant.within)
+add_made : tie.Need-overflow_add-made invariant_loop decreases_loop
+add_made c = omega (arith, c.loop-i-test.true, c.loop-i.invariant.within)
 
-loop_less_3 : tie.Need-loop-smaller-3 invariant_loop decreases_loop
-loop_less_3 c = let in-loop = c.before.before.before.before in omega (arith, in-loop.loop-test.true)
+loop_less_3 : tie.Need-loop-i-smaller invariant_loop decreases_loop
+loop_less_3 c = omega (arith, c.loop-i-test.true)
 
-loop_again_3 : tie.Need-loop-preserved-3 invariant_loop decreases_loop
+loop_again_3 : tie.Need-loop-i-preserved invariant_loop decreases_loop
 loop_again_3 c =
-    let at-step = c.before.before in
-    let read = at-step.before in
-    let in-loop = read.before in
-    let s = stepped_as _ _ _ c.enum-told3.given.1 at-step.step_of_lem.ensures in
-    count-part _ _ _ _ in-loop.before.loop.invariant in-loop.loop-test.true read.get-run.ensures s
+    let s = stepped_as _ _ _ c.in-Part.is c.step_of.ensures in
+    count-part _ _ _ _ c.loop-i.invariant c.loop-i-test.true c.get_run-r.ensures s
 
 returns : tie.Need-returns invariant_loop decreases_loop
-returns c = count_end _ _ _ _ c.before.loop.invariant c.loop-test.false
+returns c = count_end _ _ _ _ c.loop-i.invariant c.loop-i-test.false
 
 pub from_runs_makes_spec : {M : Type 1} → statement M
 from_runs_makes_spec =

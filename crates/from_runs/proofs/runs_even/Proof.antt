@@ -4,10 +4,10 @@ use Rattle.from_runs.specs.RunLaws.{uneven, even}
 use Rattle.from_runs.proofs.runs_even.Statement.{statement}
 use Rattle.from_runs.proofs.runs_even.Tie as tie
 
-returns : tie.Need-returns
-returns c = uneven _ c.if1.true
+returns : tie.Need-returns-then-runs-ne0
+returns c = uneven _ c.if-runs-ne0.true
 
-returns_2 : tie.Need-returns-2
+returns_2 : tie.Need-returns
 returns_2 c = even _ (search rules)
 
 pub runs_even_spec : {M : Type 1} → statement M

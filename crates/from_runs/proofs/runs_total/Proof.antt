@@ -11,28 +11,24 @@ use Rattle.from_runs.specs.RunLaws.{total-start, total-all, total_next, total_he
 use Rattle.from_runs.proofs.runs_total.Statement.{statement}
 use Rattle.from_runs.proofs.runs_total.Tie as tie
 
-abbrev invariant_loop : tie.invariant_loop
+abbrev invariant_loop : tie.invariant-loop-i
 invariant_loop runs n i₀ sum₀ i sum = (i ≤ n) × (sum + total (drop i (records run_layout runs)) ≡ total (records run_layout runs))
 
-abbrev decreases_loop : tie.decreases_loop
+abbrev decreases_loop : tie.decreases-loop-i
 decreases_loop runs n i₀ sum₀ i sum = n - i
 
-loop_holds : tie.Need-loop-init invariant_loop decreases_loop
+loop_holds : tie.Need-loop-i-init invariant_loop decreases_loop
 loop_holds c = (search rules, total-start _)
 
-add-sum : tie.Need-overflow-add-sum invariant_loop decreases_loop
+add-sum : tie.Need-overflow_add-sum invariant_loop decreases_loop
 add-sum c =
-    let read = c.before in
-    let in-loop = read.before in
-    let at-loop = in-loop.before in
-    let start = at-loop.before.before in
-    omega (arith, total_here _ _ in-loop.loop-test.true read.get-run.ensures at-loop.loop.invariant.1, total_low _ _ start.requires.0.few_terms start.requires.1 start.requires.0.rule)
+    omega (arith, total_here _ _ c.loop-i-test.true c.get_run-r.ensures c.loop-i.invariant.1, total_low _ _ c.requires.0.few_terms c.requires.1 c.requires.0.rule)
 
-loop_again : tie.Need-loop-preserved invariant_loop decreases_loop
-loop_again c = (search rules, total_next _ _ c.before.before.loop-test.true c.before.get-run.ensures c.before.before.before.loop.invariant.1)
+loop_again : tie.Need-loop-i-preserved invariant_loop decreases_loop
+loop_again c = (search rules, total_next _ _ c.loop-i-test.true c.get_run-r.ensures c.loop-i.invariant.1)
 
 returns : tie.Need-returns invariant_loop decreases_loop
-returns c = total-all _ c.before.loop.i (omega (arith, c.loop-test.false, c.before.loop.invariant.0)) c.before.loop.invariant.1
+returns c = total-all _ c.loop-i.i (omega (arith, c.loop-i-test.false, c.loop-i.invariant.0)) c.loop-i.invariant.1
 
 pub runs_total_spec : {M : Type 1} → statement M
 runs_total_spec =

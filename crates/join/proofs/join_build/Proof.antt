@@ -8,136 +8,93 @@ use Rattle.join.specs.DownLaws.{Down, down_start, down_store, base_ready, base_n
 use Rattle.join.proofs.join_build.Statement.{statement}
 use Rattle.join.proofs.join_build.Tie as tie
 
-abbrev invariant_loop : tie.invariant_loop
+abbrev invariant_loop : tie.invariant-loop-l
 invariant_loop nodes₀ used right node len end h lo₀ hi₀ at₀ n₀ nodes lo hi at n =
     Down nodes₀ used right h end (grown (nodes_in nodes₀ used) right node len) nodes lo hi at n
 
-abbrev decreases_loop : tie.decreases_loop
+abbrev decreases_loop : tie.decreases-loop-l
 decreases_loop nodes₀ used right node len end h lo₀ hi₀ at₀ n₀ nodes lo hi at n = at
 
-get_node_requires : tie.Need-get-node-requires invariant_loop decreases_loop
-get_node_requires c κs = let start = c.before.before in omega (arith, start.requires.0.store.fits, start.requires.1.1.low)
+get_node_requires : tie.Need-get_node-r-requires invariant_loop decreases_loop
+get_node_requires c κs = omega (arith, c.requires.0.store.fits, c.requires.1.1.low)
 
-loop_holds : tie.Need-loop-init invariant_loop decreases_loop
-loop_holds c = let asked = c.before.before.before.requires in down_start _ _ _ _ _ _ c.get-node.ensures asked.0 asked.1.0 asked.1.1
+loop_holds : tie.Need-loop-l-init invariant_loop decreases_loop
+loop_holds c = let asked = c.requires in down_start _ _ _ _ _ _ c.get_node-r.ensures asked.0 asked.1.0 asked.1.1
 
-next_turn_requires : tie.Need-next-turn-requires invariant_loop decreases_loop
-next_turn_requires c κs = let d = c.before.loop.invariant in record { used = _; store = down_store d; piece = rw d.kept.front d.piece }
+next_turn_requires : tie.Need-next_turn-requires invariant_loop decreases_loop
+next_turn_requires c κs = let d = c.loop-l.invariant in record { used = _; store = down_store d; piece = rw d.kept.front d.piece }
 
 -- ---- the base ----
 
-make_concat_requires : tie.Need-make-concat-requires invariant_loop decreases_loop
+make_concat_requires : tie.Need-make_concat-requires invariant_loop decreases_loop
 make_concat_requires c κs =
-    let found = c.before.before in
-    let at_turn = found.before.before in
-    let r = base_ready at_turn.before.before.loop.invariant at_turn.next-turn.ensures found.l.given.1 in
+    let r = base_ready c.loop-l.invariant c.next_turn.ensures c.in-Base.is in
     (r.store, (r.room, r.left, r.size, r.right))
 
 complete_requires : tie.Need-complete-requires invariant_loop decreases_loop
 complete_requires c κs =
-    let made = c.before.before.before in
-    let found = made.before.before.before in
-    let at_turn = found.before.before in
-    (base_next at_turn.before.before.loop.invariant at_turn.next-turn.ensures found.l.given.1 made.make-concat.ensures).asks
+    (base_next c.loop-l.invariant c.next_turn.ensures c.in-Base.is c.make_concat.ensures).asks
 
-same_length : tie.Need-same-length invariant_loop decreases_loop
+same_length : tie.Need-shape_of-nodes-in-Base invariant_loop decreases_loop
 same_length c =
-    let done = c.before.before in
-    let made = done.before.before.before.before in
-    let found = made.before.before.before in
-    let at_turn = found.before.before in
-    let closes = base_next at_turn.before.before.loop.invariant at_turn.next-turn.ensures found.l.given.1 made.make-concat.ensures in
-    done.complete.ensures.1.size ∙ closes.size
+    let closes = base_next c.loop-l.invariant c.next_turn.ensures c.in-Base.is c.make_concat.ensures in
+    c.complete.ensures.1.size ∙ closes.size
 
-returns : tie.Need-returns invariant_loop decreases_loop
+returns : tie.Need-returns-in-Base invariant_loop decreases_loop
 returns c =
-    let done = c.before.before in
-    let made = done.before.before.before.before in
-    let found = made.before.before.before in
-    let at_turn = found.before.before in
-    let closes = base_next at_turn.before.before.loop.invariant at_turn.next-turn.ensures found.l.given.1 made.make-concat.ensures in
-    closes.done _ done.complete.ensures.1
+    let closes = base_next c.loop-l.invariant c.next_turn.ensures c.in-Base.is c.make_concat.ensures in
+    closes.done _ c.complete.ensures.1
 
 -- ---- a single turn ----
 
-sub_hi : tie.Need-overflow-sub-hi invariant_loop decreases_loop
+sub_hi : tie.Need-overflow_sub-hi invariant_loop decreases_loop
 sub_hi c =
-    let found = c.before in
-    let at_turn = found.before.before in
-    (single_asks at_turn.before.before.loop.invariant at_turn.next-turn.ensures found.a.given.1).some
+    (single_asks c.loop-l.invariant c.next_turn.ensures c.in-Single.is).some
 
 reserve_requires : tie.Need-reserve-requires invariant_loop decreases_loop
 reserve_requires c κs =
-    let found = c.before.before in
-    let at_turn = found.before.before in
-    let o = single_asks at_turn.before.before.loop.invariant at_turn.next-turn.ensures found.a.given.1 in
+    let o = single_asks c.loop-l.invariant c.next_turn.ensures c.in-Single.is in
     (o.room, o.left, o.size, search rules)
 
-loop_less : tie.Need-loop-smaller invariant_loop decreases_loop
+loop_less : tie.Need-loop-l-smaller-in-Single invariant_loop decreases_loop
 loop_less c =
-    let found = c.before.before.before.before.before in
-    let at_turn = found.before.before in
-    (single_asks at_turn.before.before.loop.invariant at_turn.next-turn.ensures found.a.given.1).lower
+    (single_asks c.loop-l.invariant c.next_turn.ensures c.in-Single.is).lower
 
-loop_again : tie.Need-loop-preserved invariant_loop decreases_loop
+loop_again : tie.Need-loop-l-preserved-in-Single invariant_loop decreases_loop
 loop_again c =
-    let put = c.before.before in
-    let found = put.before.before.before in
-    let at_turn = found.before.before in
-    single_next at_turn.before.before.loop.invariant at_turn.next-turn.ensures found.a.given.1 put.reserve.ensures
+    single_next c.loop-l.invariant c.next_turn.ensures c.in-Single.is c.reserve.ensures
 
 -- ---- a double turn ----
 
-make_concat_requires_2 : tie.Need-make-concat-requires-2 invariant_loop decreases_loop
+make_concat_requires_2 : tie.Need-make_concat-requires-in-Double invariant_loop decreases_loop
 make_concat_requires_2 c κs =
-    let found = c.before.before in
-    let at_turn = found.before.before in
-    let r = double_ready at_turn.before.before.loop.invariant at_turn.next-turn.ensures found.a2.given.1 in
+    let r = double_ready c.loop-l.invariant c.next_turn.ensures c.in-Double.is in
     (r.store, (r.room, r.left, r.size, r.right))
 
-sub_hi_2 : tie.Need-overflow-sub-hi-2 invariant_loop decreases_loop
+sub_hi_2 : tie.Need-overflow_sub-hi-in-Double invariant_loop decreases_loop
 sub_hi_2 c =
-    let head = c.before.before in
-    let found = head.before.before.before in
-    let at_turn = found.before.before in
-    (double_asks at_turn.before.before.loop.invariant at_turn.next-turn.ensures found.a2.given.1 head.make-concat2.ensures).some
+    (double_asks c.loop-l.invariant c.next_turn.ensures c.in-Double.is c.make_concat-in-Double.ensures).some
 
-add_reserve : tie.Need-overflow-add-reserve invariant_loop decreases_loop
+add_reserve : tie.Need-overflow_add-b invariant_loop decreases_loop
 add_reserve c =
-    let head = c.before.before.before in
-    let found = head.before.before.before in
-    let at_turn = found.before.before in
-    omega (arith, (double_asks at_turn.before.before.loop.invariant at_turn.next-turn.ensures found.a2.given.1 head.make-concat2.ensures).size)
+    omega (arith, (double_asks c.loop-l.invariant c.next_turn.ensures c.in-Double.is c.make_concat-in-Double.ensures).size)
 
-reserve_requires_2 : tie.Need-reserve-requires-2 invariant_loop decreases_loop
+reserve_requires_2 : tie.Need-reserve-requires-in-Double invariant_loop decreases_loop
 reserve_requires_2 c κs =
-    let head = c.before.before.before in
-    let found = head.before.before.before in
-    let at_turn = found.before.before in
-    let o = double_asks at_turn.before.before.loop.invariant at_turn.next-turn.ensures found.a2.given.1 head.make-concat2.ensures in
+    let o = double_asks c.loop-l.invariant c.next_turn.ensures c.in-Double.is c.make_concat-in-Double.ensures in
     (o.room, o.left, o.size, search rules)
 
-add_lo : tie.Need-overflow-add-lo invariant_loop decreases_loop
+add_lo : tie.Need-overflow_add-lo invariant_loop decreases_loop
 add_lo c =
-    let head = c.before.before.before.before.before.before in
-    let found = head.before.before.before in
-    let at_turn = found.before.before in
-    omega (arith, (double_asks at_turn.before.before.loop.invariant at_turn.next-turn.ensures found.a2.given.1 head.make-concat2.ensures).left)
+    omega (arith, (double_asks c.loop-l.invariant c.next_turn.ensures c.in-Double.is c.make_concat-in-Double.ensures).left)
 
-loop_less_2 : tie.Need-loop-smaller-2 invariant_loop decreases_loop
+loop_less_2 : tie.Need-loop-l-smaller invariant_loop decreases_loop
 loop_less_2 c =
-    let head = c.before.before.before.before.before.before in
-    let found = head.before.before.before in
-    let at_turn = found.before.before in
-    (double_asks at_turn.before.before.loop.invariant at_turn.next-turn.ensures found.a2.given.1 head.make-concat2.ensures).lower
+    (double_asks c.loop-l.invariant c.next_turn.ensures c.in-Double.is c.make_concat-in-Double.ensures).lower
 
-loop_again_2 : tie.Need-loop-preserved-2 invariant_loop decreases_loop
+loop_again_2 : tie.Need-loop-l-preserved invariant_loop decreases_loop
 loop_again_2 c =
-    let put = c.before.before in
-    let head = put.before.before.before.before in
-    let found = head.before.before.before in
-    let at_turn = found.before.before in
-    double_next at_turn.before.before.loop.invariant at_turn.next-turn.ensures found.a2.given.1 head.make-concat2.ensures put.reserve2.ensures
+    double_next c.loop-l.invariant c.next_turn.ensures c.in-Double.is c.make_concat-in-Double.ensures c.reserve-in-Double.ensures
 
 pub join_build_spec : {M : Type 1} → statement M
 join_build_spec =

@@ -14,40 +14,32 @@ abbrev decreases_loop : tie.decreases-loop-at
 decreases_loop nodes₀ from end before at₀ last₀ nodes at last = end - at
 
 loop_holds : tie.Need-loop-at-init invariant_loop decreases_loop
-loop_holds c = up_start _ _ _ _ c.before.requires
+loop_holds c = up_start _ _ _ _ c.requires
 
 get_node_requires : tie.Need-get_node-n-requires invariant_loop decreases_loop
-get_node_requires c κs = omega (arith, c.before.before.loop-at.invariant.room, c.before.loop-at-test.true)
+get_node_requires c κs = omega (arith, c.loop-at.invariant.room, c.loop-at-test.true)
 
 make_concat_requires : tie.Need-make_concat-requires invariant_loop decreases_loop
 make_concat_requires c κs =
-    let first = c.before in
-    let read = first.before.before in
-    let in-loop = read.before.before in
-    let r = up_ready in-loop.before.loop-at.invariant in-loop.loop-at-test.true read.get_node-n.ensures first.child.ensures c.child-in-loop-at.ensures in
+    let r = up_ready c.loop-at.invariant c.loop-at-test.true c.get_node-n.ensures c.child.ensures c.child-in-loop-at.ensures in
     (r.store, (r.room, r.left, r.size, r.right))
 
 add_at : tie.Need-overflow_add-at invariant_loop decreases_loop
-add_at c = let in-loop = c.before.before.before.before.before.before.before.before in omega (arith, in-loop.loop-at-test.true)
+add_at c = omega (arith, c.loop-at-test.true)
 
 loop_less : tie.Need-loop-at-smaller invariant_loop decreases_loop
-loop_less c = let in-loop = c.before.before.before.before.before.before.before.before in omega (arith, in-loop.loop-at-test.true)
+loop_less c = omega (arith, c.loop-at-test.true)
 
 loop_again : tie.Need-loop-at-preserved invariant_loop decreases_loop
 loop_again c =
-    let made = c.before.before in
-    let second = made.before in
-    let first = second.before in
-    let read = first.before.before in
-    let in-loop = read.before.before in
-    up_next in-loop.before.loop-at.invariant in-loop.loop-at-test.true read.get_node-n.ensures first.child.ensures second.child-in-loop-at.ensures
-    made.make_concat.ensures
+    up_next c.loop-at.invariant c.loop-at-test.true c.get_node-n.ensures c.child.ensures c.child-in-loop-at.ensures
+    c.make_concat.ensures
 
 same_length : tie.Need-shape_of-nodes invariant_loop decreases_loop
-same_length c = c.before.loop-at.invariant.size
+same_length c = c.loop-at.invariant.size
 
 returns : tie.Need-returns invariant_loop decreases_loop
-returns c = up_end c.before.loop-at.invariant c.loop-at-test.false
+returns c = up_end c.loop-at.invariant c.loop-at-test.false
 
 pub complete_spec : {M : Type 1} → statement M
 complete_spec =

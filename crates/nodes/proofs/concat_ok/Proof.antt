@@ -17,12 +17,12 @@ returns_2 c = concat-refused _ _ _ (λ f. omega arith)
 
 -- the two nodes read, in the store
 left : (read : tie.After-get_node-right)
-    → let s = read.before.before.before.before.before.before.before.args in
-    as_node read.before.get_node-left.result ≡ node_at (nodes_in s.nodes.now s.i) s.n.a
-left read = below_at _ _ _ read.before.get_node-left.ensures (search rules)
+    → let s = read.args in
+    as_node read.get_node-left.result ≡ node_at (nodes_in s.nodes.now s.i) s.n.a
+left read = below_at _ _ _ read.get_node-left.ensures (search rules)
 
 right : (read : tie.After-get_node-right)
-    → let s = read.before.before.before.before.before.before.before.args in
+    → let s = read.args in
     as_node read.get_node-right.result ≡ node_at (nodes_in s.nodes.now s.i) s.n.c
 right read = below_at _ _ _ read.get_node-right.ensures (search rules)
 
@@ -44,21 +44,20 @@ returns_7 c = concat-refused _ _ _ (λ f. omega arith)
 returns_8 : tie.Need-returns-then-n-larger
 returns_8 c =
     let compared = c.before in
-    let read = compared.before.before.before.before.before.before.before.before.before.before.before.before.before in
+    let read = compared.before in
     concat-refused _ _ _
-    (λ f. c.if-n-larger.true (omega (arith, compared.larger.ensures, ap (λ (n : Node). n.height) (left read), ap (λ (n : Node). n.height) (right read))))
+    (λ f. c.if-n-larger.true (omega (arith, compared.larger.ensures, ap (λ (n : Node). n.height) (left read.before.before.before.before.before.before.before.before.before.before.before.before), ap (λ (n : Node). n.height) (right read.before.before.before.before.before.before.before.before.before.before.before.before))))
 
 returns_9 : tie.Need-returns
 returns_9 c =
     let same-height = c.before in
-    let long-enough = same-height.before.before.before.before.before in
-    let some_right = long-enough.before.before.before.before.before in
-    let some_left = some_right.before.before in
-    let read = some_left.before.before in
-    let right_low = read.before.before in
-    concat-last _ _ _ right_low.before.before.if-i-n.false right_low.if-i-n-2.false (left read) (right read) (omega (arith, some_left.if-left-eq-NIL.false))
-    (omega (arith, some_right.if-right-eq-NIL.false)) long-enough.before.before.before.if-n-lt1.false long-enough.if-left-n.false
-    (omega (arith, same-height.before.before.before.if-n-lt1-2.false, same-height.if-n-larger.false, same-height.before.larger.ensures)) c.reaches.ensures
+    let long-enough = same-height.before in
+    let some_right = long-enough.before in
+    let some_left = some_right.before in
+    let read = some_left.before in
+    concat-last _ _ _ read.if-i-n.false read.if-i-n-2.false (left read.before.before.before.before.before.before.before.before.before.before) (right read.before.before.before.before.before.before.before.before.before.before) (omega (arith, some_left.if-left-eq-NIL.false))
+    (omega (arith, some_right.if-right-eq-NIL.false)) long-enough.if-n-lt1.false long-enough.if-left-n.false
+    (omega (arith, same-height.if-n-lt1-2.false, same-height.if-n-larger.false, same-height.larger.ensures)) c.reaches.ensures
 
 pub concat_ok_spec : {M : Type 1} → statement M
 concat_ok_spec =

@@ -23,7 +23,7 @@ returns_4 c = cons-refused _ _ _ _ (λ f. omega arith)
 
 -- the tail, in the store
 tail : (g : tie.After-get_node-tail)
-    → let s = g.before.before.before.before.before.before.before.before.before.before.before.args in
+    → let s = g.args in
     as_node g.get_node-tail.result ≡ node_at (nodes_in s.nodes.now s.i) s.n.c
 tail g = below_at _ _ _ g.get_node-tail.ensures (search rules)
 
@@ -35,8 +35,8 @@ returns_6 c = cons-refused _ _ _ _ (λ f. c.if-n-ne1.true f.height1)
 
 returns_7 : tie.Need-returns
 returns_7 c =
-    let g = c.before.before.before.before.before in
-    cons-last _ _ _ _ (search rules) (search rules) (search rules) (tail g) (search rules) (search rules) c.reaches.ensures
+    let g = c.before in
+    cons-last _ _ _ _ (search rules) (search rules) (search rules) (tail g.before.before.before.before) (search rules) (search rules) c.reaches.ensures
 
 pub cons_ok_spec : {M : Type 1} → statement M
 cons_ok_spec =

@@ -8,18 +8,16 @@ use Rattle.nodes.proofs.make_concat.Tie as tie
 
 -- the two nodes read, in the store
 left : (read : tie.After-get_node-right)
-    → let a = read.before.before.before.before.before.args in
-    Known a.nodes-1.now a.used a.a (as_node read.before.before.get_node-left.result)
+    → let a = read.args in
+    Known a.nodes.now a.used a.a (as_node read.get_node-left.result)
 left read =
-    let start = read.before.before.before.before.before in
-    known _ _ _ start.requires.0.store _ (search rules) read.before.before.get_node-left.ensures
+    known _ _ _ read.requires.0.store _ (search rules) read.get_node-left.ensures
 
 right : (read : tie.After-get_node-right)
-    → let a = read.before.before.before.before.before.args in
-    Known a.nodes-1.now a.used a.c (as_node read.get_node-right.result)
+    → let a = read.args in
+    Known a.nodes.now a.used a.c (as_node read.get_node-right.result)
 right read =
-    let start = read.before.before.before.before.before in
-    known _ _ _ start.requires.0.store _ (search rules) read.get_node-right.ensures
+    known _ _ _ read.requires.0.store _ (search rules) read.get_node-right.ensures
 
 add_t14 : tie.Need-overflow_add-n
 add_t14 c = let l = left c.before in let r = right c.before in omega arith
@@ -32,11 +30,11 @@ put_node_requires c κs = let l = left c.before.before.before in let r = right c
 
 returns : tie.Need-returns
 returns c =
-    let put = c.before.before in
-    let reach = put.before.before in
+    let put = c.before in
+    let reach = put.before in
     let height = reach.before in
     let read = height.before in
-    concat_made _ _ _ _ _ (left read) (right read) height.larger.ensures reach.reach_of.ensures put.put_node.ensures
+    concat_made _ _ _ _ _ (left read.before.before) (right read.before.before) height.larger.ensures reach.reach_of.ensures put.put_node.ensures
 
 pub make_concat_spec : {M : Type 1} → statement M
 make_concat_spec =

@@ -8,18 +8,18 @@ use Rattle.nodes.proofs.make_cons.Tie as tie
 
 -- the tail, in the store
 tail : (read : tie.After-get_node-tail)
-    → let a = read.before.before.before.args in
-    Known a.nodes-1.now a.used a.c (as_node read.get_node-tail.result)
-tail read = let start = read.before.before.before in known _ _ _ start.requires.0.store _ (search rules) read.get_node-tail.ensures
+    → let a = read.args in
+    Known a.nodes.now a.used a.c (as_node read.get_node-tail.result)
+tail read = known _ _ _ read.requires.0.store _ (search rules) read.get_node-tail.ensures
 
 reach_of_requires : tie.Need-reach_of-requires
 reach_of_requires c κs = let t = tail c in omega arith
 
 returns : tie.Need-returns
 returns c =
-    let put = c.before.before in
-    let reach = put.before.before in
-    cons_made _ _ _ _ _ (tail reach.before) reach.reach_of.ensures put.put_node.ensures
+    let put = c.before in
+    let reach = put.before in
+    cons_made _ _ _ _ _ (tail reach.before.before.before) reach.reach_of.ensures put.put_node.ensures
 
 pub make_cons_spec : {M : Type 1} → statement M
 make_cons_spec =

@@ -21,9 +21,7 @@ returns_5 c below e = nil_refused _ _ (λ f. c.if-n-ne0-4.true f.height0)
 
 returns_6 : tie.Need-returns
 returns_6 c below e =
-    let d5 = c.before in
-    let d3 = d5.before.before.before.before in
-    nil_last _ _ (omega arith) d3.before.before.if-n-ne0.false d3.if-n-ne0-2.false d5.before.before.if-n-ne0-3.false d5.if-n-ne0-4.false
+    nil_last _ _ (omega arith) c.if-n-ne0.false c.if-n-ne0-2.false c.if-n-ne0-3.false c.if-n-ne0-4.false
 
 pub nil_ok_spec : {M : Type 1} → statement M
 nil_ok_spec = tie.close (tie.spec returns returns_2 returns_3 returns_4 returns_5 returns_6)

@@ -23,18 +23,18 @@ loop_holds c = (search rules, rest_all _ _ _ c.if-used-lt1.false)
 
 returns_2 : tie.Need-returns-then-not-node_ok invariant_loop decreases_loop
 returns_2 c =
-    let b = sym c.before.node_ok.ensures ∙ not-true _ c.if-not-node_ok.true-raw in
-    sym (c.before.before.before.loop-i.invariant.1 ∙ rest_more _ _ _ _ (search rules) b)
+    let b = sym c.node_ok.ensures ∙ not-true _ c.if-not-node_ok.true-raw in
+    sym (c.loop-i.invariant.1 ∙ rest_more _ _ _ _ (search rules) b)
 
 loop_again : tie.Need-loop-i-preserved invariant_loop decreases_loop
 loop_again c =
-    let b = sym c.before.node_ok.ensures ∙ not-false _ c.if-not-node_ok.false-raw in
-    (search rules, c.before.before.before.loop-i.invariant.1 ∙ rest_more _ _ _ _ (search rules) b)
+    let b = sym c.node_ok.ensures ∙ not-false _ c.if-not-node_ok.false-raw in
+    (search rules, c.loop-i.invariant.1 ∙ rest_more _ _ _ _ (search rules) b)
 
 returns_3 : tie.Need-returns invariant_loop decreases_loop
 returns_3 c =
-    let e : c.before.loop-i.i ≡ c.before.before.before.before.args.used = search rules in
-    sym (c.before.loop-i.invariant.1 ∙ ap (rest_rule _ _ _) e ∙ rest_none _ _ _)
+    let e : c.loop-i.i ≡ c.args.used = search rules in
+    sym (c.loop-i.invariant.1 ∙ ap (rest_rule _ _ _) e ∙ rest_none _ _ _)
 
 pub nodes_ok_spec : {M : Type 1} → statement M
 nodes_ok_spec =

@@ -7,13 +7,13 @@ use Rattle.nodes.proofs.reaches.Statement.{statement}
 use Rattle.nodes.proofs.reaches.Tie as tie
 
 returns : tie.Need-returns-then-b-ge-LIMIT
-returns c = let a = c.before.args in let e : min 65536 (a.b + a.after) ≡ 65536 = omega arith in rw e refl
+returns c = let a = c.args in let e : min 65536 (a.b + a.after) ≡ 65536 = omega arith in rw e refl
 
 returns_2 : tie.Need-returns-then-b-after
-returns_2 c = let a = c.before.before.args in let e : min 65536 (a.b + a.after) ≡ 65536 = omega arith in rw e refl
+returns_2 c = let a = c.args in let e : min 65536 (a.b + a.after) ≡ 65536 = omega arith in rw e refl
 
 returns_3 : tie.Need-returns
-returns_3 c = let a = c.before.before.args in let e : min 65536 (a.b + a.after) ≡ a.b + a.after = omega arith in rw e refl
+returns_3 c = let a = c.args in let e : min 65536 (a.b + a.after) ≡ a.b + a.after = omega arith in rw e refl
 
 pub reaches_spec : {M : Type 1} → statement M
 reaches_spec = tie.close (tie.spec returns (λ c. search rules) returns_2 (λ c. search rules) returns_3)

@@ -7,29 +7,27 @@ use Rattle.numbers.specs.Numbers.{Same}
 use Rattle.numbers.proofs.agree_from.Statement.{statement}
 use Rattle.numbers.proofs.agree_from.Tie as tie
 
-abbrev invariant_loop : tie.invariant_loop
+abbrev invariant_loop : tie.invariant-loop-k
 invariant_loop numbers s p n from k₀ k = (k ≤ n) × Same numbers s p k
 
-abbrev decreases_loop : tie.decreases_loop
+abbrev decreases_loop : tie.decreases-loop-k
 decreases_loop numbers s p n from k₀ k = n - k
 
-loop_holds : tie.Need-loop-init invariant_loop decreases_loop
+loop_holds : tie.Need-loop-k-init invariant_loop decreases_loop
 loop_holds c = c.requires.1
 
-returns : tie.Need-returns invariant_loop decreases_loop
+returns : tie.Need-returns-then-numbers-s invariant_loop decreases_loop
 returns c =
-    let at-loop = c.before.before.before.before in
-    record { within = at-loop.loop.invariant.0; same = at-loop.loop.invariant.1; apart = λ h e. c.if1.true e }
+    record { within = c.loop-k.invariant.0; same = c.loop-k.invariant.1; apart = λ h e. c.if-numbers-s.true e }
 
-loop_again : tie.Need-loop-preserved invariant_loop decreases_loop
+loop_again : tie.Need-loop-k-preserved invariant_loop decreases_loop
 loop_again c =
-    let at-loop = c.before.before.before.before in
-    (omega arith, below_more _ _ at-loop.loop.invariant.1 c.if1.false)
+    (omega arith, below_more _ _ c.loop-k.invariant.1 c.if-numbers-s.false)
 
-returns_2 : tie.Need-returns-2 invariant_loop decreases_loop
+returns_2 : tie.Need-returns invariant_loop decreases_loop
 returns_2 c = record {
   within = omega arith;
-  same = λ i h. c.before.loop.invariant.1 i (omega arith);
+  same = λ i h. c.loop-k.invariant.1 i (omega arith);
   apart = λ h. absurd (omega arith);
 }
 

@@ -11,24 +11,24 @@ use Rattle.numbers.specs.NumbersLaws.{never}
 use Rattle.numbers.proofs.all_same.Statement.{statement}
 use Rattle.numbers.proofs.all_same.Tie as tie
 
-abbrev invariant_loop : tie.invariant_loop
+abbrev invariant_loop : tie.invariant-loop-i
 invariant_loop numbers s p n same₀ i₀ same i = (i ≤ n) × (same ≡ true → Same numbers s p i)
 
-abbrev decreases_loop : tie.decreases_loop
+abbrev decreases_loop : tie.decreases-loop-i
 decreases_loop numbers s p n same₀ i₀ same i = n - i
 
-loop_holds : tie.Need-loop-init invariant_loop decreases_loop
+loop_holds : tie.Need-loop-i-init invariant_loop decreases_loop
 loop_holds c = (omega arith, λ h. below_none _)
 
-loop_again : tie.Need-loop-preserved invariant_loop decreases_loop
+loop_again : tie.Need-loop-i-preserved invariant_loop decreases_loop
 loop_again c =
-    let at-loop = c.before.before.before.before in (
+    (
       omega arith,
-      λ e. ⊎_elim (λ w. never e w.1) (λ w. below_more _ _ (at-loop.loop.invariant.1 (sym w.1 ∙ e)) w.0.left) c.if1.branch,
+      λ e. ⊎_elim (λ w. never e w.1) (λ w. below_more _ _ (c.loop-i.invariant.1 (sym w.1 ∙ e)) w.0.left) c.if-numbers-s.branch,
     )
 
 returns : tie.Need-returns invariant_loop decreases_loop
-returns c e i h = c.before.loop.invariant.1 e i (omega arith)
+returns c e i h = c.loop-i.invariant.1 e i (omega arith)
 
 pub all_same_spec : {M : Type 1} → statement M
 all_same_spec =

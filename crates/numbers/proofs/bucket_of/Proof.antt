@@ -6,11 +6,11 @@ use Rattle.numbers.proofs.bucket_of.Statement.{statement}
 use Rattle.numbers.proofs.bucket_of.Tie as tie
 
 mix_requires : tie.Need-mix-requires
-mix_requires c κs = (c.before.before.before.before.requires.0.0, rw c.term-digest.ensures (term-below _ _ _ _ _))
+mix_requires c κs = (c.requires.0.0, rw c.term_digest.ensures (term-below _ _ _ _ _))
 
 returns : tie.Need-returns
 unfolding key_of
-returns c = rw (c.mix.ensures, c.before.term-digest.ensures)
+returns c = rw (c.mix.ensures, c.term_digest.ensures)
 
 pub bucket_of_spec : {M : Type 1} → statement M
 bucket_of_spec = tie.close (tie.spec (λ c κs. search rules) mix_requires returns)

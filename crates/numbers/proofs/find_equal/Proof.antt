@@ -11,81 +11,72 @@ use Rattle.numbers.specs.TablesLaws.{searched_next, placed_here, placed_nowhere}
 use Rattle.numbers.proofs.find_equal.Statement.{statement}
 use Rattle.numbers.proofs.find_equal.Tie as tie
 
-abbrev invariant_loop : tie.invariant_loop
+abbrev invariant_loop : tie.invariant-loop-at
 invariant_loop names terms numbers earlier k from at₀ cost₀ at cost =
     ((used base : ℕ) (heads : List ℕ)
     → Searched base names terms used numbers heads earlier k from → Searched base names terms used numbers heads earlier k at)
     × (cost + at * limit ≤ from * limit)
 
-abbrev decreases_loop : tie.decreases_loop
+abbrev decreases_loop : tie.decreases-loop-at
 decreases_loop names terms numbers earlier k from at₀ cost₀ at cost = at
 
-loop_holds : tie.Need-loop-init invariant_loop decreases_loop
+loop_holds : tie.Need-loop-at-init invariant_loop decreases_loop
 loop_holds c = (λ used base heads given. given, omega arith)
 
-apart_above_requires : tie.Need-apart-above-requires invariant_loop decreases_loop
+apart_above_requires : tie.Need-apart_above-took-requires invariant_loop decreases_loop
 apart_above_requires c κs =
-    let at-loop = c.before in
-    let (used, base, heads, given) = at-loop.before.before.before.before.before.requires in
-    let here = at-loop.loop.invariant.0 used base heads given in
-    (used, (here.tables.store, sought_low here.sought c.loop-test.true, here.below, here.tables.few, here.tables.known))
+    let (used, base, heads, given) = c.requires in
+    let here = c.loop-at.invariant.0 used base heads given in
+    (used, (here.tables.store, sought_low here.sought c.loop-at-test.true, here.below, here.tables.few, here.tables.known))
 
-returns : tie.Need-returns invariant_loop decreases_loop
+returns : tie.Need-returns-then-took-eq0 invariant_loop decreases_loop
 returns c =
-    let at_call = c.before in
-    let at_test = at_call.before in
-    let was = at_test.before.loop.invariant in
-    let more = at_test.loop-test.true in (
+    let was = c.loop-at.invariant in
+    let more = c.loop-at-test.true in (
       omega (arith, was.1),
       λ used base heads given.
           let here = was.0 used base heads given in
           let low = sought_low here.sought more in
-          let told = at_call.apart_above.ensures.1 used here.tables.store low here.below here.tables.known in
-          placed_here here more told (eq-eqb _ _ c.if1.true),
+          let told = c.apart_above-took.ensures.1 used here.tables.store low here.below here.tables.known in
+          placed_here here more told (eq-eqb _ _ c.if-took-eq0.true),
     )
 
-add_cost : tie.Need-overflow-add-cost invariant_loop decreases_loop
+add_cost : tie.Need-overflow_add-cost invariant_loop decreases_loop
 add_cost c =
-    let at_call = c.before in
-    let at-loop = at_call.before.before in
-    let (used, base, heads, given) = at-loop.before.before.before.before.before.requires in
-    omega (arith, at_call.apart_above.ensures.0, at_call.before.loop-test.true, at-loop.loop.invariant.1, given.sought.low, given.below, given.tables.few)
+    let (used, base, heads, given) = c.requires in
+    omega (arith, c.apart_above-took.ensures.0, c.loop-at-test.true, c.loop-at.invariant.1, given.sought.low, given.below, given.tables.few)
 
-number_requires : tie.Need-number-requires invariant_loop decreases_loop
+number_requires : tie.Need-number-at-requires invariant_loop decreases_loop
 number_requires c κs =
-    let at_test = c.before.before in
-    let (used, base, heads, given) = at_test.before.before.before.before.before.before.requires in
-    let here = at_test.before.loop.invariant.0 used base heads given in
-    let low = sought_low here.sought at_test.loop-test.true in
+    let (used, base, heads, given) = c.requires in
+    let here = c.loop-at.invariant.0 used base heads given in
+    let low = sought_low here.sought c.loop-at-test.true in
     omega (arith, here.below, here.tables.few, here.tables.earlier-room)
 
-loop_less : tie.Need-loop-smaller invariant_loop decreases_loop
+loop_less : tie.Need-loop-at-smaller invariant_loop decreases_loop
 loop_less c =
-    let at_test = c.before.before.before in
-    let (used, base, heads, given) = at_test.before.before.before.before.before.before.requires in
-    let here = at_test.before.loop.invariant.0 used base heads given in
-    omega (arith, c.number.ensures, sought_less here.sought at_test.loop-test.true)
+    let (used, base, heads, given) = c.requires in
+    let here = c.loop-at.invariant.0 used base heads given in
+    omega (arith, c.number-at.ensures, sought_less here.sought c.loop-at-test.true)
 
-loop_again : tie.Need-loop-preserved invariant_loop decreases_loop
+loop_again : tie.Need-loop-at-preserved invariant_loop decreases_loop
 loop_again c =
-    let at_call = c.before.before in
-    let at_test = at_call.before in
-    let was = at_test.before.loop.invariant in
-    let more = at_test.loop-test.true in
-    let (used, base, heads, given) = at_test.before.before.before.before.before.before.requires in
+    let was = c.loop-at.invariant in
+    let more = c.loop-at-test.true in
+    let (used, base, heads, given) = c.requires in
     let less = sought_less (was.0 used base heads given).sought more in (
       λ used base heads given.
           let here = was.0 used base heads given in
           let low = sought_low here.sought more in
-          let told = at_call.apart_above.ensures.1 used here.tables.store low here.below here.tables.known in
-          rw c.number.ensures (searched_next here more told (ne_eqb _ _ c.before.if1.false)),
-      omega (arith, was.1, less, c.number.ensures, at_call.apart_above.ensures.0),
+          let told = c.apart_above-took.ensures.1 used here.tables.store low here.below here.tables.known in
+          rw c.number-at.ensures (searched_next here more told (ne_eqb _ _ c.if-took-eq0.false)),
+      omega (arith, was.1, less, c.number-at.ensures, c.apart_above-took.ensures.0),
     )
 
-returns_2 : tie.Need-returns-2 invariant_loop decreases_loop
+returns_2 : tie.Need-returns invariant_loop decreases_loop
 returns_2 c =
-    let was = c.before.loop.invariant in
-    (omega (arith, was.1), λ used base heads given. placed_nowhere (was.0 used base heads given) c.loop-test.false)
+    let was = c.loop-at.invariant in
+    (omega (arith, was.1), λ used base heads given. placed_nowhere (was.0 used base heads given) c.loop-at-test.false)
 
 pub find_equal_spec : {M : Type 1} → statement M
 find_equal_spec =

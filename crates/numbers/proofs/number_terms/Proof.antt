@@ -14,45 +14,40 @@ use Rattle.numbers.specs.NumberingLaws.{attempts, attempts_fall}
 use Rattle.numbers.proofs.number_terms.Statement.{statement}
 use Rattle.numbers.proofs.number_terms.Tie as tie
 
-abbrev invariant_loop : tie.invariant_loop
+abbrev invariant_loop : tie.invariant-loop-done
 invariant_loop names terms used numbers₀ base₀ left₀ done₀ numbers base left done =
     (base < prime) × (done ≡ true → Numbers names terms used used numbers)
     × (drop used numbers ≡ drop used numbers₀) × (length numbers ≡ length numbers₀)
 
-abbrev decreases_loop : tie.decreases_loop
+abbrev decreases_loop : tie.decreases-loop-done
 decreases_loop names terms used numbers₀ base₀ left₀ done₀ numbers base left done = attempts done left
 
-loop_holds : tie.Need-loop-init invariant_loop decreases_loop
+loop_holds : tie.Need-loop-done-init invariant_loop decreases_loop
 loop_holds c = (omega arith, λ e. never e refl, refl, refl)
 
-number_within_requires : tie.Need-number-within-requires invariant_loop decreases_loop
+number_within_requires : tie.Need-number_within-done-requires invariant_loop decreases_loop
 number_within_requires c κs =
-    let at-loop = c.before.before.before in
-    let (store, few, room) = at-loop.before.before.before.before.requires in
-    let (small, numbered, rest, size) = at-loop.loop.invariant in
+    let (store, few, room) = c.requires in
+    let (small, numbered, rest, size) = c.loop-done.invariant in
     (store, few, omega arith, small)
 
-loop_less : tie.Need-loop-smaller invariant_loop decreases_loop
+loop_less : tie.Need-loop-done-smaller invariant_loop decreases_loop
 loop_less c =
-    let at_call = c.before.before.before in
-    let at_most = at_call.before.before in
-    let at-loop = at_most.before.before in
-    attempts_fall at-loop.loop.done _ at-loop.loop.left c.if1.left (not-true _ at_most.before.loop-test.true)
+    attempts_fall c.loop-done.done _ c.loop-done.left c.if-left-ne0.left (not-true _ c.loop-done-test.true-raw)
     (λ e.
     ⊎_elim (λ w. omega (arith, w.0.taken, w.1))
-    (λ w. never (at_call.number-within.ensures.1 (omega (arith, at_most.most-of.ensures w.0.left))) e) c.if1.branch)
+    (λ w. never (c.number_within-done.ensures.1 (omega (arith, c.most_of-most.ensures w.0.left))) e) c.if-left-ne0.branch)
 
-loop_again : tie.Need-loop-preserved invariant_loop decreases_loop
+loop_again : tie.Need-loop-done-preserved invariant_loop decreases_loop
 loop_again c =
-    let at_call = c.before.before.before in
-    let was = at_call.before.before.before.before.loop.invariant in
-    let (numbered, last, rest, size) = at_call.number-within.ensures in
+    let was = c.loop-done.invariant in
+    let (numbered, last, rest, size) = c.number_within-done.ensures in
     (omega arith, numbered, rest ∙ was.2, size ∙ was.3)
 
 returns : tie.Need-returns invariant_loop decreases_loop
 returns c =
-    let was = c.before.loop.invariant in
-    (was.1 (not-false _ c.loop-test.false), was.2, was.3)
+    let was = c.loop-done.invariant in
+    (was.1 (not-false _ c.loop-done-test.false-raw), was.2, was.3)
 
 pub number_terms_spec : {M : Type 1} → statement M
 number_terms_spec =

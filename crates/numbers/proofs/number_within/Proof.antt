@@ -9,9 +9,9 @@ use Rattle.numbers.specs.TablesLaws.{tables_none}
 use Rattle.numbers.proofs.number_within.Statement.{statement}
 use Rattle.numbers.proofs.number_within.Tie as tie
 
-number_with_requires : tie.Need-number-with-requires
+number_with_requires : tie.Need-number_with-requires
 number_with_requires c κs =
-    let pre = c.before.before.before.before.before.before.before.requires in (
+    let pre = c.requires in (
       pre,
       (
         (omega arith, marked_none _ (limit / stride + 1) (omega arith)),

@@ -9,35 +9,33 @@ use Rattle.numbers.specs.NumbersLaws.{runs-numbered}
 use Rattle.numbers.proofs.runs_apart.Statement.{statement}
 use Rattle.numbers.proofs.runs_apart.Tie as tie
 
-returns : tie.Need-returns
+returns : tie.Need-returns-then-first-second
 returns c = (
   omega arith,
   λ names w used k known first second inside.
-      runs_lengths names w used _ _ _ _ (omega arith) (omega arith) (λ e. omega (arith, c.if1.true)),
+      runs_lengths names w used _ _ _ _ (omega arith) (omega arith) (λ e. omega (arith, c.if-first-second.true)),
 )
 
-returns_2 : tie.Need-returns-2
+returns_2 : tie.Need-returns-then-first-second-2
 returns_2 c =
-    let same = c.before.before.before.if1.false in
-    (omega arith, λ names w used k known first second inside. runs_same names w used _ _ _ _ same c.if2.true)
+    let same = c.if-first-second.false in
+    (omega arith, λ names w used k known first second inside. runs_same names w used _ _ _ _ same c.if-first-second-2.true)
 
-returns_3 : tie.Need-returns-3
+returns_3 : tie.Need-returns-then-same-first
 returns_3 c =
-    let at_call = c.before.before in
-    let same = at_call.before.before.before.before.if1.false in (
+    let same = c.if-first-second.false in (
       omega arith,
       λ names w used k known first second inside.
-          sym (eq-eqb _ _ c.if3.true) ∙ runs-numbered names w used k _ known inside _ _ _ first (omega arith) same at_call.agree.ensures,
+          sym (eq-eqb _ _ c.if-same-first.true) ∙ runs-numbered names w used k _ known inside _ _ _ first (omega arith) same c.agree-same.ensures,
     )
 
-returns_4 : tie.Need-returns-4
+returns_4 : tie.Need-returns
 returns_4 c =
-    let at_call = c.before.before in
-    let same = at_call.before.before.before.before.if1.false in
-    let found = at_call.agree.ensures in (
+    let same = c.if-first-second.false in
+    let found = c.agree-same.ensures in (
       omega (arith, found.within),
       λ names w used k known first second inside.
-          ne_eqb (1 + at_call.agree.result / 1024) 0 (λ e. omega arith) ∙ sym (ne_eqb _ _ c.if3.false)
+          ne_eqb (1 + c.agree-same.result / 1024) 0 (λ e. omega arith) ∙ sym (ne_eqb _ _ c.if-same-first.false)
           ∙ runs-numbered names w used k _ known inside _ _ _ first (omega arith) same found,
     )
 

@@ -5,15 +5,12 @@ use Rattle.places.specs.RestLaws.{pushed, entered_within, entered_split}
 use Rattle.places.proofs.down.Statement.{statement}
 use Rattle.places.proofs.down.Tie as tie
 
-returns : tie.Need-returns
-returns c = entered_within _ _ c.if1.true
+returns : tie.Need-returns-then-at-here
+returns c = entered_within _ _ c.if-at-here.true
 
-returns_2 : tie.Need-returns-2
+returns_2 : tie.Need-returns
 returns_2 c =
-    let pushed-two = c.before in
-    let pushed-one = pushed-two.before.before.before.before in
-    let longer = pushed-one.before.before.before in
-    entered_split _ _ longer.if1.false (pushed _ _ _ _ _ _ (omega arith) pushed-one.set_word.ensures pushed-two.set-word2.ensures)
+    entered_split _ _ c.if-at-here.false (pushed _ _ _ _ _ _ (omega arith) c.set_word.ensures c.set_word-2.ensures)
 
 pub down_spec : {M : Type 1} → statement M
 down_spec =

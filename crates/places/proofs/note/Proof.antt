@@ -5,11 +5,11 @@ use Rattle.places.specs.ReadLaws.{noted-start, noted_inner}
 use Rattle.places.proofs.note.Statement.{statement}
 use Rattle.places.proofs.note.Tie as tie
 
-returns : tie.Need-returns
-returns c = let start = c.before.before.before in c.set_word.ensures ∙ noted-start _ _ _ _ start.if1.true
+returns : tie.Need-returns-then-at-eq0
+returns c = c.set_word.ensures ∙ noted-start _ _ _ _ c.if-at-eq0.true
 
-returns_2 : tie.Need-returns-2
-returns_2 c = noted_inner _ _ _ _ c.if1.false
+returns_2 : tie.Need-returns-else-at-eq0
+returns_2 c = noted_inner _ _ _ _ c.if-at-eq0.false
 
 pub note_spec : {M : Type 1} → statement M
 note_spec = tie.close (tie.spec (λ c. search rules) (λ c. search rules) (λ c κs. search rules) returns returns_2)

@@ -9,39 +9,35 @@ use Rattle.places.specs.PlacesLaws.{up_next}
 use Rattle.places.proofs.put_run.Statement.{statement}
 use Rattle.places.proofs.put_run.Tie as tie
 
-abbrev invariant_loop : tie.invariant_loop
+abbrev invariant_loop : tie.invariant-loop-i
 invariant_loop places₀ to start n i₀ places i = (i ≤ n) × (places ≡ sets places₀ to (numbers_from start i))
 
-abbrev decreases_loop : tie.decreases_loop
+abbrev decreases_loop : tie.decreases-loop-i
 decreases_loop places₀ to start n i₀ places i = n - i
 
 -- no word is added
-same : (c : tie.At-loop invariant_loop decreases_loop) → length c.loop.places ≡ length c.before.before.args.places.now
+same : (c : tie.At-loop-i invariant_loop decreases_loop) → length c.loop-i.places ≡ length c.args.places.now
 same c =
-    let x = c.before.before.args in
-    ap length c.loop.invariant.1 ∙ length-sets x.places.now x.to (numbers_from x.start c.loop.i)
+    let x = c.args in
+    ap length c.loop-i.invariant.1 ∙ length-sets x.places.now x.to (numbers_from x.start c.loop-i.i)
 
-loop_holds : tie.Need-loop-init invariant_loop decreases_loop
+loop_holds : tie.Need-loop-i-init invariant_loop decreases_loop
 loop_holds c = (omega arith, refl)
 
-set_word_requires : tie.Need-set-word-requires invariant_loop decreases_loop
-set_word_requires c κs = let at-loop = c.before.before in (omega (arith, same at-loop), omega arith)
+set_word_requires : tie.Need-set_word-requires invariant_loop decreases_loop
+set_word_requires c κs = let at-loop = c.before in (omega (arith, same at-loop.before), omega arith)
 
-loop_again : tie.Need-loop-preserved invariant_loop decreases_loop
+loop_again : tie.Need-loop-i-preserved invariant_loop decreases_loop
 loop_again c =
-    let set-one = c.before.before in
-    let at-loop = set-one.before.before.before in
-    (omega arith, set-one.set_word.ensures ∙ up_next _ _ _ _ _ at-loop.loop.invariant.1)
+    (omega arith, c.set_word.ensures ∙ up_next _ _ _ _ _ c.loop-i.invariant.1)
 
-same_length : tie.Need-same-length invariant_loop decreases_loop
+same_length : tie.Need-shape_of-places invariant_loop decreases_loop
 same_length c = same c.before
 
 returns : tie.Need-returns invariant_loop decreases_loop
 returns c =
-    let at-loop = c.before in
-    let start = at-loop.before.before in
-    let e : at-loop.loop.i ≡ start.args.n = omega (arith, at-loop.loop.invariant.0) in
-    at-loop.loop.invariant.1 ∙ ap (λ k. sets start.args.places.now start.args.to (numbers_from start.args.start k)) e
+    let e : c.loop-i.i ≡ c.args.n = omega (arith, c.loop-i.invariant.0) in
+    c.loop-i.invariant.1 ∙ ap (λ k. sets c.args.places.now c.args.to (numbers_from c.args.start k)) e
 
 pub put_run_spec : {M : Type 1} → statement M
 put_run_spec =

@@ -16,128 +16,124 @@ use Rattle.places.specs.ReadLaws.{turn-fits, turn_low, turn_on, run_inside, turn
 use Rattle.places.proofs.read_with.Statement.{statement}
 use Rattle.places.proofs.read_with.Tie as tie
 
-abbrev invariant_loop : tie.invariant_loop
+abbrev invariant_loop : tie.invariant-loop-done
 invariant_loop nodes node skip n seen₀ stack₀ places₀ at₀ done₀ seen stack places at done =
     (used terms : ℕ) → NodeStore nodes terms used → Reaches nodes used node (skip + n)
     → Reading terms (nodes_in nodes used) (wanted terms (nodes_in nodes used) node skip n) n places₀ (rest_of at stack) seen places done
 
 -- The number of a node is below the limit.
-abbrev decreases_loop : tie.decreases_loop
+abbrev decreases_loop : tie.decreases-loop-done
 decreases_loop nodes node skip n seen₀ stack₀ places₀ at₀ done₀ seen stack places at done = (n - done) * limit + at.node
 
 -- what holds where the loop stands, in a store of the words
-abbrev Now : tie.At-loop invariant_loop decreases_loop → ℕ → ℕ → Type 0
+abbrev Now : tie.At-loop-done invariant_loop decreases_loop → ℕ → ℕ → Type 0
 Now c used terms =
-    let x = c.before.before.before.args in
+    let x = c.args in
     let ns = nodes_in x.nodes.now used in
-    Reading terms ns (wanted terms ns x.node x.skip x.n) x.n x.places.now (rest_of c.loop.at c.loop.stack) c.loop.seen c.loop.places c.loop.done
+    Reading terms ns (wanted terms ns x.node x.skip x.n) x.n x.places.now (rest_of c.loop-done.at c.loop-done.stack) c.loop-done.seen c.loop-done.places c.loop-done.done
 
 -- in the store that is there
-reading : (c : tie.At-loop invariant_loop decreases_loop) → let asked = c.before.before.before.requires.0 in Now c asked.used asked.store.terms
-reading c = let asked = c.before.before.before.requires.0 in c.loop.invariant _ _ asked.store.store asked.reaches
+reading : (c : tie.At-loop-done invariant_loop decreases_loop) → let asked = c.requires.0 in Now c asked.used asked.store.terms
+reading c = let asked = c.requires.0 in c.loop-done.invariant _ _ asked.store.store asked.reaches
 
 -- the piece's node is one of the used ones
-below : (c : tie.At-loop invariant_loop decreases_loop) {used terms : ℕ} → Now c used terms → c.loop.at.node < used
+below : (c : tie.At-loop-done invariant_loop decreases_loop) {used terms : ℕ} → Now c used terms → c.loop-done.at.node < used
 below c now = rw decode-length at now.low
 
 -- the node that is read
-is : (c : tie.After-get-node invariant_loop decreases_loop) (used : ℕ) {terms : ℕ}
-    → let at-loop = c.before.before in
-    Now at-loop used terms → as_node c.get-node.result ≡ node_at (nodes_in at-loop.before.before.before.args.nodes.now used) at-loop.loop.at.node
-is c used now = below_at _ used _ c.get-node.ensures (below c.before.before now)
+is : (c : tie.After-get_node-here invariant_loop decreases_loop) (used : ℕ) {terms : ℕ}
+    → let at-loop = c.before in
+    Now at-loop used terms → as_node c.get_node-here.result ≡ node_at (nodes_in at-loop.args.nodes.now used) at-loop.loop-done.at.node
+is c used now = below_at _ used _ c.get_node-here.ensures (below c.before now)
 
 -- the piece of a turn
-fits : (c : tie.In-loop invariant_loop decreases_loop)
-    → let at-loop = c.before in
-    let at = at-loop.loop.at in
-    Fits at-loop.before.before.before.args.n at.node at.skip at.left at.depth at-loop.loop.done at-loop.loop.places
+fits : (c : tie.In-loop-done invariant_loop decreases_loop)
+    → let at = c.loop-done.at in
+    Fits c.args.n at.node at.skip at.left at.depth c.loop-done.done c.loop-done.places
 fits c =
     let at-loop = c.before in
-    let asked = at-loop.before.before.before.requires in
-    rw waiting-length at (turn-fits (reading at-loop) c.loop-test.true (rw decode-length asked.0.store.store.few) asked.1.0.0)
+    let asked = at-loop.requires in
+    rw waiting-length at (turn-fits (reading at-loop) c.loop-done-test.true (rw decode-length asked.0.store.store.few) asked.1.0.0)
 
-loop_holds : tie.Need-loop-init invariant_loop decreases_loop
-loop_holds c used terms store reaches = let start = c.before.before in reading_start store reaches start.requires.1.0.1 start.requires.1.1 start.args.stack.now
+loop_holds : tie.Need-loop-done-init invariant_loop decreases_loop
+loop_holds c used terms store reaches = reading_start store reaches c.requires.1.0.1 c.requires.1.1 c.args.stack.now
 
-get_node_requires : tie.Need-get-node-requires invariant_loop decreases_loop
+get_node_requires : tie.Need-get_node-here-requires invariant_loop decreases_loop
 get_node_requires c κs =
     let at-loop = c.before in
-    omega (arith, at-loop.before.before.before.requires.0.store.store.fits, below at-loop (reading at-loop))
+    omega (arith, at-loop.requires.0.store.store.fits, below at-loop (reading at-loop))
 
 -- ---- the part is used up: on to the tail or right ----
 
-loop_less : tie.Need-loop-smaller invariant_loop decreases_loop
+loop_less : tie.Need-loop-done-smaller-then-here-at invariant_loop decreases_loop
 loop_less c =
-    let used_up = c.before.before in
-    let read = used_up.before.before.before in
+    let used_up = c.before in
+    let read = used_up.before in
     let in-loop = read.before in
     let now = reading in-loop.before in
-    omega (arith, turn_low now in-loop.loop-test.true (is read _ now) used_up.if1.true)
+    omega (arith, turn_low now in-loop.loop-done-test.true (is read _ now) used_up.if-here-at.true)
 
-loop_again : tie.Need-loop-preserved invariant_loop decreases_loop
+loop_again : tie.Need-loop-done-preserved-then-here-at invariant_loop decreases_loop
 loop_again c used terms store reaches =
-    let used_up = c.before.before in
-    let read = used_up.before.before.before in
-    let in-loop = read.before in
-    let now = in-loop.before.loop.invariant used terms store reaches in
-    turn_on now in-loop.loop-test.true (is read used now) used_up.if1.true
+    let used_up = c.before in
+    let read = used_up.before in
+    let now = read.loop-done.invariant used terms store reaches in
+    turn_on now read.loop-done-test.true (is read used now) used_up.if-here-at.true
 
 -- ---- a run ----
 
 -- its places and its length
-run : (c : tie.After-smaller invariant_loop decreases_loop)
-    → let read = c.before.before.before.before.before.before.before.before in
-    let at = read.before.before.loop.at in
-    let k = c.smaller.result in
-    (read.get-node.result.a + at.skip + k ≤ limit) × (1 ≤ k) × (k ≤ at.left)
+run : (c : tie.After-smaller-k invariant_loop decreases_loop)
+    → let at = c.loop-done.at in
+    let k = c.smaller-k.result in
+    (c.get_node-here.result.a + at.skip + k ≤ limit) × (1 ≤ k) × (k ≤ at.left)
 run c =
-    let is-cons = c.before.before.before in
-    let inner = is-cons.before.before in
-    let read = inner.before.before.before in
+    let is-cons = c.before in
+    let inner = is-cons.before in
+    let read = inner.before in
     let in-loop = read.before in
     let at-loop = in-loop.before in
     let now = reading at-loop in
-    let k : c.smaller.result ≡ min at-loop.loop.at.left (read.get-node.result.b - at-loop.loop.at.skip) = c.smaller.ensures in
-    let q : at-loop.loop.at.skip < read.get-node.result.b = inner.if1.false in
-    let l = run_inside now in-loop.loop-test.true (is read _ now) is-cons.if2.true q k in
-    let few = at-loop.before.before.before.requires.0.store.few_terms in
+    let k : c.smaller-k.result ≡ min at-loop.loop-done.at.left (read.get_node-here.result.b - at-loop.loop-done.at.skip) = c.smaller-k.ensures in
+    let q : at-loop.loop-done.at.skip < read.get_node-here.result.b = inner.if-here-at.false in
+    let l = run_inside now in-loop.loop-done-test.true (is read _ now) is-cons.if-here-eq-CONS.true q k in
+    let few = at-loop.requires.0.store.few_terms in
     let some = (fits in-loop).some in
     (omega arith, omega arith, omega arith)
 
-put_run_requires : tie.Need-put-run-requires invariant_loop decreases_loop
+put_run_requires : tie.Need-put_run-requires invariant_loop decreases_loop
 put_run_requires c κs =
-    let at-run = c.before.before.before in
-    let in-loop = at-run.before.before.before.before.before.before.before.before.before in
+    let at-run = c.before in
+    let in-loop = at-run.before in
     (omega (arith, fits in-loop, (run at-run).2), (run at-run).0)
 
-add_done : tie.Need-overflow-add-done invariant_loop decreases_loop
+add_done : tie.Need-overflow_add-done invariant_loop decreases_loop
 add_done c =
-    let at-run = c.before.before.before.before.before.before in
-    let in-loop = at-run.before.before.before.before.before.before.before.before.before in
+    let at-run = c.before in
+    let in-loop = at-run.before in
     omega (arith, fits in-loop, (run at-run).2)
 
-past_requires : tie.Need-past-requires invariant_loop decreases_loop
+past_requires : tie.Need-past-at-requires invariant_loop decreases_loop
 past_requires c κs =
-    let in-loop = c.before.before.before.before.before.before.before.before.before.before.before.before.before.before.before.before in
+    let in-loop = c.before in
     ((fits in-loop).short, omega (arith, fits in-loop))
 
-loop_again_2 : tie.Need-loop-preserved-2 invariant_loop decreases_loop
+loop_again_2 : tie.Need-loop-done-preserved-then-here-eq-CONS invariant_loop decreases_loop
 loop_again_2 c used terms store reaches =
-    let put = c.before.before.before.before in
-    let at-run = put.before.before.before.before in
-    let is-cons = at-run.before.before.before in
-    let inner = is-cons.before.before in
-    let read = inner.before.before.before in
-    let in-loop = read.before in
-    let now = in-loop.before.loop.invariant used terms store reaches in
-    turn-run now in-loop.loop-test.true (is read used now) is-cons.if2.true inner.if1.false at-run.smaller.ensures c.past.ensures put.put-run.ensures
+    let put = c.before in
+    let at-run = put.before in
+    let is-cons = at-run.before in
+    let inner = is-cons.before in
+    let read = inner.before in
+    let now = read.loop-done.invariant used terms store reaches in
+    turn-run now read.loop-done-test.true (is read used now) is-cons.if-here-eq-CONS.true inner.if-here-at.false at-run.smaller-k.ensures c.past-at.ensures put.put_run.ensures
 
-loop_less_2 : tie.Need-loop-smaller-2 invariant_loop decreases_loop
+loop_less_2 : tie.Need-loop-done-smaller-then-here-eq-CONS invariant_loop decreases_loop
 loop_less_2 c =
-    let at-run = c.before.before.before.before.before.before.before.before in
-    let in-loop = at-run.before.before.before.before.before.before.before.before.before in
-    let asked = in-loop.before.before.before.before.requires.0 in
-    let next : c.past.result.node < limit =
+    let at-run = c.before in
+    let in-loop = at-run.before in
+    let asked = in-loop.requires.0 in
+    let next : c.past-at.result.node < limit =
     omega (arith, rw decode-length at (loop_again_2 c _ _ asked.store.store asked.reaches).low, asked.store.store.few) in
     let end = (fits in-loop).most in
     let within = (run at-run).2 in
@@ -145,43 +141,40 @@ loop_less_2 c =
 
 -- ---- the piece was read before ----
 
-read_before_requires : tie.Need-read-before-requires invariant_loop decreases_loop
-read_before_requires c κs = let in-loop = c.before.before.before.before.before.before.before in ((fits in-loop).low, omega (arith, (fits in-loop).short))
+read_before_requires : tie.Need-read_before-before-requires invariant_loop decreases_loop
+read_before_requires c κs = let in-loop = c.before in ((fits in-loop).low, omega (arith, (fits in-loop).short))
 
-sub_copy_up : tie.Need-overflow-sub-copy-up invariant_loop decreases_loop
-sub_copy_up c = let known = c.before in omega (arith, known.if3.true)
+sub_copy_up : tie.Need-overflow_sub-before invariant_loop decreases_loop
+sub_copy_up c = omega (arith, c.if-before-ne0.true)
 
-copy_up_requires : tie.Need-copy-up-requires invariant_loop decreases_loop
+copy_up_requires : tie.Need-copy_up-requires invariant_loop decreases_loop
 copy_up_requires c κs =
     let known = c.before in
-    let in-loop = known.before.before.before.before.before.before.before.before.before in
-    let found = known.before.read-before.ensures known.if3.true in
+    let in-loop = known.before in
+    let found = known.read_before-before.ensures known.if-before-ne0.true in
     (found.there, omega (arith, fits in-loop))
 
-add_done_2 : tie.Need-overflow-add-done-2 invariant_loop decreases_loop
+add_done_2 : tie.Need-overflow_add-done-then-before-ne0 invariant_loop decreases_loop
 add_done_2 c =
-    let in-loop = c.before.before.before.before.before.before.before.before.before.before.before.before.before.before in
+    let in-loop = c.before in
     omega (arith, fits in-loop)
 
-past_requires_2 : tie.Need-past-requires-2 invariant_loop decreases_loop
+past_requires_2 : tie.Need-past-at-requires-then-before-ne0 invariant_loop decreases_loop
 past_requires_2 c κs =
-    let in-loop = c.before.before.before.before.before.before.before.before.before.before.before.before.before.before.before in
+    let in-loop = c.before in
     ((fits in-loop).short, omega (arith, fits in-loop))
 
-loop_again_3 : tie.Need-loop-preserved-3 invariant_loop decreases_loop
+loop_again_3 : tie.Need-loop-done-preserved-then-before-ne0 invariant_loop decreases_loop
 loop_again_3 c used terms store reaches =
-    let copied = c.before.before.before.before.before in
-    let known = copied.before.before in
-    let in-loop = known.before.before.before.before.before.before.before.before.before in
-    let now = in-loop.before.loop.invariant used terms store reaches in
-    let found = known.before.read-before.ensures known.if3.true in
-    turn-copy now in-loop.loop-test.true found c.past2.ensures copied.copy-up.ensures
+    let now = c.loop-done.invariant used terms store reaches in
+    let found = c.read_before-before.ensures c.if-before-ne0.true in
+    turn-copy now c.loop-done-test.true found c.past-at-then-before-ne0.ensures c.copy_up.ensures
 
-loop_less_3 : tie.Need-loop-smaller-3 invariant_loop decreases_loop
+loop_less_3 : tie.Need-loop-done-smaller-then-before-ne0 invariant_loop decreases_loop
 loop_less_3 c =
-    let in-loop = c.before.before.before.before.before.before.before.before.before.before.before.before.before.before.before.before in
-    let asked = in-loop.before.before.before.before.requires.0 in
-    let next : c.past2.result.node < limit =
+    let in-loop = c.before in
+    let asked = in-loop.requires.0 in
+    let next : c.past-at-then-before-ne0.result.node < limit =
     omega (arith, rw decode-length at (loop_again_3 c _ _ asked.store.store asked.reaches).low, asked.store.store.few) in
     let end = (fits in-loop).most in
     read_less _ _ _ _ _ (fits in-loop).some (omega arith) next
@@ -190,45 +183,45 @@ loop_less_3 c =
 
 note_requires : tie.Need-note-requires invariant_loop decreases_loop
 note_requires c κs =
-    let in-loop = c.before.before.before.before.before.before.before.before.before.before in
+    let in-loop = c.before in
     ((fits in-loop).low, omega (arith, fits in-loop), omega (arith, fits in-loop))
 
-down_requires : tie.Need-down-requires invariant_loop decreases_loop
+down_requires : tie.Need-down-at-requires invariant_loop decreases_loop
 down_requires c κs =
-    let not-cons = c.before.before.before.before.before.before in
-    let inner = not-cons.before.before in
-    let read = inner.before.before.before in
+    let not-cons = c.before in
+    let inner = not-cons.before in
+    let read = inner.before in
     let in-loop = read.before in
     let now = reading in-loop.before in
-    let right = turn-right now in-loop.loop-test.true (is read _ now) not-cons.if2.false inner.if1.false in
-    let at = fits in-loop in
-    (omega (arith, inner.if1.false), omega (arith, at.short), omega (arith, right, at.low), omega (arith, fits in-loop))
+    let right = turn-right now in-loop.loop-done-test.true (is read _ now) not-cons.if-here-eq-CONS.false inner.if-here-at.false in
+    -loop in
+    (omega (arith, inner.if-here-at.false), omega (arith, fits.short), omega (arith, right, fits.low), omega (arith, fits in-loop))
 
-loop_less_4 : tie.Need-loop-smaller-4 invariant_loop decreases_loop
+loop_less_4 : tie.Need-loop-done-smaller invariant_loop decreases_loop
 loop_less_4 c =
-    let not-cons = c.before.before.before.before.before.before.before in
-    let inner = not-cons.before.before in
-    let read = inner.before.before.before in
+    let not-cons = c.before in
+    let inner = not-cons.before in
+    let read = inner.before in
     let in-loop = read.before in
     let now = reading in-loop.before in
-    omega (arith, turn-left now in-loop.loop-test.true (is read _ now) not-cons.if2.false inner.if1.false c.down.ensures)
+    omega (arith, turn-left now in-loop.loop-done-test.true (is read _ now) not-cons.if-here-eq-CONS.false inner.if-here-at.false c.down-at.ensures)
 
-loop_again_4 : tie.Need-loop-preserved-4 invariant_loop decreases_loop
+loop_again_4 : tie.Need-loop-done-preserved invariant_loop decreases_loop
 loop_again_4 c used terms store reaches =
-    let noted = c.before.before in
-    let not-cons = noted.before.before.before.before.before in
-    let inner = not-cons.before.before in
-    let read = inner.before.before.before in
+    let noted = c.before in
+    let not-cons = noted.before in
+    let inner = not-cons.before in
+    let read = inner.before in
     let in-loop = read.before in
-    let now = in-loop.before.loop.invariant used terms store reaches in
-    turn_down now in-loop.loop-test.true (is read used now) not-cons.if2.false inner.if1.false
-    (omega (arith, fits in-loop)) noted.note.ensures c.down.ensures
+    let now = in-loop.loop-done.invariant used terms store reaches in
+    turn_down now in-loop.loop-done-test.true (is read used now) not-cons.if-here-eq-CONS.false inner.if-here-at.false
+    (omega (arith, fits in-loop)) noted.note.ensures c.down-at.ensures
 
 returns : tie.Need-returns invariant_loop decreases_loop
 returns c =
     let at-loop = c.before in
     let all = reading_all (reading at-loop) (omega arith) in
-    (all.0, all.1, λ used terms store reaches. (reading_all (at-loop.loop.invariant used terms store reaches) (omega arith)).2)
+    (all.0, all.1, λ used terms store reaches. (reading_all (at-loop.loop-done.invariant used terms store reaches) (omega arith)).2)
 
 pub read_with_spec : {M : Type 1} → statement M
 read_with_spec =
@@ -243,7 +236,7 @@ read_with_spec =
     loop_again
     (λ c. omega arith)
     (λ c κs. tt)
-    (λ c. omega (arith, (run c.before.before.before).0))
+    (λ c. omega (arith, (run c.before).0))
     put_run_requires
     add_done
     past_requires

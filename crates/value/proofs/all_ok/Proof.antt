@@ -15,56 +15,46 @@ use Rattle.value.specs.BlockLaws.{depth_small, tables_more, tables_blocks}
 use Rattle.value.proofs.all_ok.Statement.{statement}
 use Rattle.value.proofs.all_ok.Tie as tie
 
-abbrev invariant_loop : tie.invariant_loop
+abbrev invariant_loop : tie.invariant-loop-i
 invariant_loop names terms used low₀ high₀ i₀ low high i =
     (i ≤ used) × (terms_rule names [] (decode term_layout used terms) ≡ rest_rule names terms used i) × Tables terms i low high
     × (length low ≡ length low₀) × (length high ≡ length high₀)
 
-abbrev decreases_loop : tie.decreases_loop
+abbrev decreases_loop : tie.decreases-loop-i
 decreases_loop names terms used low₀ high₀ i₀ low high i = used - i
 
-loop_holds : tie.Need-loop-init invariant_loop decreases_loop
-loop_holds c = (search rules, rest_all _ _ _, c.before.before.before.before.requires.1.1, search rules, search rules)
+loop_holds : tie.Need-loop-i-init invariant_loop decreases_loop
+loop_holds c = (search rules, rest_all _ _ _, c.requires.1.1, search rules, search rules)
 
-term_ok_requires : tie.Need-term-ok-requires invariant_loop decreases_loop
-term_ok_requires c κs = (search rules, tables_blocks _ c.before.before.before.before.loop.invariant.2 (search rules) (search rules))
+term_ok_requires : tie.Need-term_ok-requires invariant_loop decreases_loop
+term_ok_requires c κs = (search rules, tables_blocks _ c.loop-i.invariant.2 (search rules) (search rules))
 
-returns : tie.Need-returns invariant_loop decreases_loop
+returns : tie.Need-returns-then-not-term_ok invariant_loop decreases_loop
 returns c =
-    let at-get-term = c.before.before.before.before in
-    let at-loop-test = at-get-term.before in
-    let at-loop = at-loop-test.before in
-    let b = sym c.before.term-ok.ensures ∙ not-true _ c.if1.true in
-    sym (at-loop.loop.invariant.1 ∙ rest_more _ _ _ _ at-loop-test.loop-test.true at-get-term.get-term.ensures b)
+    let b = sym c.term_ok.ensures ∙ not-true _ c.if-not-term_ok.true-raw in
+    sym (c.loop-i.invariant.1 ∙ rest_more _ _ _ _ c.loop-i-test.true c.get_term-t.ensures b)
 
 enter_requires : tie.Need-enter-requires invariant_loop decreases_loop
-enter_requires c κs = (search rules, search rules, depth_small _ _ _ (sym (not-false _ c.before.before.if1.false) ∙ c.before.before.before.term-ok.ensures))
+enter_requires c κs = (search rules, search rules, depth_small _ _ _ (sym (not-false _ c.if-not-term_ok.false-raw) ∙ c.term_ok.ensures))
 
-loop_again : tie.Need-loop-preserved invariant_loop decreases_loop
+loop_again : tie.Need-loop-i-preserved invariant_loop decreases_loop
 loop_again c =
-    let at-enter = c.before.before.before.before in
-    let at-if1 = at-enter.before.before.before in
-    let at-term-ok = at-if1.before in
-    let at-get-term = at-term-ok.before.before.before in
-    let at-loop-test = at-get-term.before in
-    let at-loop = at-loop-test.before in
-    let at-start = at-loop.before.before.before.before.before in
-    let room = at-start.requires in
-    let more = at-loop-test.loop-test.true in
-    let b = sym at-term-ok.term-ok.ensures ∙ not-false _ at-if1.if1.false in
-    let t = at-get-term.get-term.ensures in (
+    let room = c.requires in
+    let more = c.loop-i-test.true in
+    let b = sym c.term_ok.ensures ∙ not-false _ c.if-not-term_ok.false-raw in
+    let t = c.get_term-t.ensures in (
       search rules,
-      at-loop.loop.invariant.1 ∙ rest_more _ _ _ _ more t b,
-      tables_more _ at-loop.loop.invariant.2 (omega (arith, at-loop.loop.invariant)) (omega (arith, at-loop.loop.invariant)) t at-enter.enter.ensures.0
-          at-enter.enter.ensures.1,
+      c.loop-i.invariant.1 ∙ rest_more _ _ _ _ more t b,
+      tables_more _ c.loop-i.invariant.2 (omega (arith, c.loop-i.invariant)) (omega (arith, c.loop-i.invariant)) t c.enter.ensures.0
+          c.enter.ensures.1,
       search rules,
       search rules,
     )
 
-returns_2 : tie.Need-returns-2 invariant_loop decreases_loop
+returns_2 : tie.Need-returns invariant_loop decreases_loop
 returns_2 c =
-    let e : c.before.loop.i ≡ c.before.before.before.before.before.before.args.used = search rules in
-    sym (c.before.loop.invariant.1 ∙ ap (rest_rule _ _ _) e ∙ rest_none _ _ _)
+    let e : c.loop-i.i ≡ c.args.used = search rules in
+    sym (c.loop-i.invariant.1 ∙ ap (rest_rule _ _ _) e ∙ rest_none _ _ _)
 
 pub all_ok_spec : {M : Type 1} → statement M
 all_ok_spec =

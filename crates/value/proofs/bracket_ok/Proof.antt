@@ -7,23 +7,23 @@ use Rattle.value.specs.BlockLaws.{blocks_below}
 use Rattle.value.proofs.bracket_ok.Statement.{statement}
 use Rattle.value.proofs.bracket_ok.Tie as tie
 
-returns : tie.Need-returns
+returns : tie.Need-returns-then-i-t
 returns c = bracket_out _ _ _ (search rules)
 
-returns_2 : tie.Need-returns-2
+returns_2 : tie.Need-returns-then-i-t-2
 returns_2 c = bracket_out _ _ _ (search rules)
 
-returns_3 : tie.Need-returns-3
+returns_3 : tie.Need-returns-then-t-lt1
 returns_3 c = bracket_wrong _ _ _ (search rules) refl (λ e. omega arith)
 
 deepest_requires : tie.Need-deepest-requires
-deepest_requires c κs = (search rules, blocks_below c.before.before.before.before.before.before.before.before.before.before.before.requires.1 (search rules))
+deepest_requires c κs = (search rules, blocks_below c.requires.1 (search rules))
 
-returns_4 : tie.Need-returns-4
-returns_4 c = bracket_wrong _ _ _ (search rules) c.before.deepest.ensures (λ e. c.if4.true (omega arith))
+returns_4 : tie.Need-returns-then-t-deepest
+returns_4 c = bracket_wrong _ _ _ (search rules) c.deepest.ensures (λ e. c.if-t-deepest.true (omega arith))
 
-returns_5 : tie.Need-returns-5
-returns_5 c = bracket_exact _ _ _ (search rules) c.before.before.deepest.ensures (search rules)
+returns_5 : tie.Need-returns
+returns_5 c = bracket_exact _ _ _ (search rules) c.deepest.ensures (search rules)
 
 pub bracket_ok_spec : {M : Type 1} → statement M
 bracket_ok_spec =

@@ -5,10 +5,10 @@ use Rattle.value.specs.BlockLaws.{deepened_none, deepened-more}
 use Rattle.value.proofs.deepen.Statement.{statement}
 use Rattle.value.proofs.deepen.Tie as tie
 
-returns : tie.Need-returns
+returns : tie.Need-returns-then-wide-d
 returns c = deepened-more _ _ (omega arith)
 
-returns_2 : tie.Need-returns-2
+returns_2 : tie.Need-returns-else-wide-d
 returns_2 c = deepened_none _ _ (omega arith)
 
 pub deepen_spec : {M : Type 1} → statement M

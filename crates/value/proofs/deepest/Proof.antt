@@ -9,25 +9,24 @@ use Rattle.value.specs.BlockLaws.{deepest_none, deepest-parts, blocks_below}
 use Rattle.value.proofs.deepest.Statement.{statement}
 use Rattle.value.proofs.deepest.Tie as tie
 
-abbrev invariant_loop : tie.invariant_loop
+abbrev invariant_loop : tie.invariant-loop-i
 invariant_loop terms low high s n deep₀ i₀ deep i = (i ≤ n) × (deep ≡ deepest (run_of terms s i))
 
-abbrev decreases_loop : tie.decreases_loop
+abbrev decreases_loop : tie.decreases-loop-i
 decreases_loop terms low high s n deep₀ i₀ deep i = n - i
 
-loop_holds : tie.Need-loop-init invariant_loop decreases_loop
+loop_holds : tie.Need-loop-i-init invariant_loop decreases_loop
 loop_holds c = (search rules, deepest_none _ _)
 
-first_part_requires : tie.Need-first-part-requires invariant_loop decreases_loop
-first_part_requires c κs = (search rules, (blocks_below c.before.before.before.before.before.requires.1 (omega arith), search rules))
+first_part_requires : tie.Need-first_part-part-requires invariant_loop decreases_loop
+first_part_requires c κs = (search rules, (blocks_below c.requires.1 (omega arith), search rules))
 
-loop_again : tie.Need-loop-preserved invariant_loop decreases_loop
+loop_again : tie.Need-loop-i-preserved invariant_loop decreases_loop
 loop_again c =
-    let p = c.before.before in
-    (search rules, deepest-parts _ _ _ _ p.before.before.loop.invariant.1 p.first_part.ensures.right c.before.larger.ensures)
+    (search rules, deepest-parts _ _ _ _ c.loop-i.invariant.1 c.first_part-part.ensures.right c.larger-deep.ensures)
 
 returns : tie.Need-returns invariant_loop decreases_loop
-returns c = let e : c.before.loop.i ≡ c.before.before.before.before.before.args.n = search rules in rw (← e) c.before.loop.invariant.1
+returns c = let e : c.loop-i.i ≡ c.args.n = search rules in rw (← e) c.loop-i.invariant.1
 
 pub deepest_spec : {M : Type 1} → statement M
 deepest_spec =

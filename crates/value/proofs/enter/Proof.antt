@@ -9,32 +9,28 @@ use Rattle.value.specs.BlockLaws.{deepened_none}
 use Rattle.value.proofs.enter.Statement.{statement}
 use Rattle.value.proofs.enter.Tie as tie
 
-returns : tie.Need-returns
+returns : tie.Need-returns-then-t-ne-BRACKET
 returns c =
-    let t = c.before.before.before.before.args.t in
-    let e = depth_other t.kind (as_term t) c.if1.true in
+    let t = c.args.t in
+    let e = depth_other t.kind (as_term t) c.if-t-ne-BRACKET.true in
     (deepened_none _ _ (omega arith), deepened_none _ _ (omega arith))
 
 deepen_requires : tie.Need-deepen-requires
 deepen_requires c κs =
-    let t = c.before.before.before.before.before.args.t in
-    let e = depth_bracket t.kind (as_term t) c.before.if1.false in
+    let t = c.args.t in
+    let e = depth_bracket t.kind (as_term t) c.if-t-ne-BRACKET.false in
     (search rules, omega arith)
 
 deepen_requires_2 : tie.Need-deepen-requires-2
 deepen_requires_2 c κs =
-    let at-if1 = c.before.before.before.before.before in
-    let at-start = at-if1.before.before.before.before in
-    let t = at-start.args.t in
-    let e = depth_bracket t.kind (as_term t) at-if1.if1.false in
+    let t = c.args.t in
+    let e = depth_bracket t.kind (as_term t) c.if-t-ne-BRACKET.false in
     (search rules, omega arith)
 
-returns_2 : tie.Need-returns-2
+returns_2 : tie.Need-returns
 returns_2 c =
-    let at-deepen = c.before.before.before.before.before.before in
-    let at-if1 = at-deepen.before.before in
-    let e = depth_bracket _ _ at-if1.if1.false in
-    (at-deepen.deepen.ensures ∙ ap (deepened _ _) e, c.before.before.deepen2.ensures ∙ ap (deepened _ _) e)
+    let e = depth_bracket _ _ c.if-t-ne-BRACKET.false in
+    (c.deepen.ensures ∙ ap (deepened _ _) e, c.deepen-2.ensures ∙ ap (deepened _ _) e)
 
 pub enter_spec : {M : Type 1} → statement M
 enter_spec =

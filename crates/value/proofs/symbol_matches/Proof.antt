@@ -4,7 +4,7 @@ use Rattle.value.specs.EqualLaws.{symbols_differ}
 use Rattle.value.proofs.symbol_matches.Statement.{statement}
 use Rattle.value.proofs.symbol_matches.Tie as tie
 
-returns : tie.Need-returns
+returns : tie.Need-returns-then-literal-t
 returns c = symbols_differ _ _ _ (search rules) (search rules)
 
 pub symbol_matches_spec : {M : Type 1} → statement M

@@ -6,28 +6,24 @@ use Rattle.value.specs.CheckLaws.{term_upper, term_symbol, term_bracket, term_un
 use Rattle.value.proofs.term_ok.Statement.{statement}
 use Rattle.value.proofs.term_ok.Tie as tie
 
-returns : tie.Need-returns
-returns c = term_upper _ _ _ c.before.upper-ok.ensures (not-true _ c.if1.true)
+returns : tie.Need-returns-then-not-upper_ok
+returns c = term_upper _ _ _ c.upper_ok.ensures (not-true _ c.if-not-upper_ok.true-raw)
 
-returns_2 : tie.Need-returns-2
+returns_2 : tie.Need-returns-then-t-lt-BRACKET
 returns_2 c =
-    let at-upper = c.before.before.before in
-    c.symbol-ok.ensures ∙ term_symbol _ _ _ at-upper.before.upper-ok.ensures (not-false _ at-upper.if1.false) c.before.if2.true
+    c.symbol_ok.ensures ∙ term_symbol _ _ _ c.upper_ok.ensures (not-false _ c.if-not-upper_ok.false-raw) c.if-t-lt-BRACKET.true
 
-returns_3 : tie.Need-returns-3
+returns_3 : tie.Need-returns-then-t-eq-BRACKET
 returns_3 c =
-    let at-upper = c.before.before.before.before.before in
-    c.bracket-ok.ensures ∙ term_bracket _ _ _ at-upper.before.upper-ok.ensures (not-false _ at-upper.if1.false) c.before.if3.true
+    c.bracket_ok.ensures ∙ term_bracket _ _ _ c.upper_ok.ensures (not-false _ c.if-not-upper_ok.false-raw) c.if-t-eq-BRACKET.true
 
-returns_4 : tie.Need-returns-4
+returns_4 : tie.Need-returns-then-t-eq-UNKNOWN
 returns_4 c =
-    let at-upper = c.before.before.before.before.before.before.before in
-    term_unknown _ _ _ at-upper.before.upper-ok.ensures (not-false _ at-upper.if1.false) c.before.if4.true
+    term_unknown _ _ _ c.upper_ok.ensures (not-false _ c.if-not-upper_ok.false-raw) c.if-t-eq-UNKNOWN.true
 
-returns_5 : tie.Need-returns-5
+returns_5 : tie.Need-returns
 returns_5 c =
-    let at-upper = c.before.before.before.before.before.before in
-    term_none _ _ _ at-upper.before.upper-ok.ensures (not-false _ at-upper.if1.false) (search rules)
+    term_none _ _ _ c.upper_ok.ensures (not-false _ c.if-not-upper_ok.false-raw) (search rules)
 
 pub term_ok_spec : {M : Type 1} → statement M
 term_ok_spec =

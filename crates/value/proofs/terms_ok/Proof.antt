@@ -4,10 +4,10 @@ use Rattle.value.specs.BlockLaws.{tables_none}
 use Rattle.value.proofs.terms_ok.Statement.{statement}
 use Rattle.value.proofs.terms_ok.Tie as tie
 
-all_ok_requires : tie.Need-all-ok-requires
+all_ok_requires : tie.Need-all_ok-requires
 all_ok_requires c κs = (search rules, (search rules, tables_none _ 32 1))
 
-all_ok_requires_2 : tie.Need-all-ok-requires-2
+all_ok_requires_2 : tie.Need-all_ok-requires-2
 all_ok_requires_2 c κs = (search rules, (search rules, tables_none _ 2048 64))
 
 pub terms_ok_spec : {M : Type 1} → statement M

@@ -24,32 +24,31 @@ power_at t = and 0 power-kinds.ps (is 0 power-kinds.ps μ-power t) power.Pre
 abbrev power_below : ℕ → In 0 power-kinds.ps
 power_below t = and 0 power-kinds.ps (falls 0 power-kinds.ps ◌<◌ μ-power t) power.Pre
 
-returns : (t : ℕ) → power-lts.Need-returns (power_below t, power.Post) (power_at t) power.Post
-returns t c = let base = c.before.args.base in sym (ap (λ k. base ^ k % prime) c.if1.true ∙ ap (◌% prime) (pow-zero base))
+returns : (t : ℕ) → power-lts.Need-returns-then-n-eq0 (power_below t, power.Post) (power_at t) power.Post
+returns t c = let base = c.args.base in sym (ap (λ k. base ^ k % prime) c.if-n-eq0.true ∙ ap (◌% prime) (pow-zero base))
 
-power_requires : (t : ℕ) → power-lts.Need-power-requires (power_below t, power.Post) (power_at t) power.Post
-power_requires t c κs = (omega (arith, c.before.requires.0, c.if1.false), c.before.requires.1)
+power_requires : (t : ℕ) → power-lts.Need-power-half-requires (power_below t, power.Post) (power_at t) power.Post
+power_requires t c κs = (omega (arith, c.requires.0, c.if-n-eq0.false), c.requires.1)
 
-mul_square : (t : ℕ) → power-lts.Need-overflow-mul-square (power_below t, power.Post) (power_at t) power.Post
+mul_square : (t : ℕ) → power-lts.Need-overflow_mul-square (power_below t, power.Post) (power_at t) power.Post
 mul_square t c =
-    let half = c.power.result in
-    let small : half < prime = omega (arith, c.power.ensures) in
+    let half = c.power-half.result in
+    let small : half < prime = omega (arith, c.power-half.ensures) in
     omega (arith, product_fits half half small small)
 
-returns_2 : (t : ℕ) → power-lts.Need-returns-2 (power_below t, power.Post) (power_at t) power.Post
-returns_2 t c = power_even _ _ _ c.before.power.ensures c.if2.true
+returns_2 : (t : ℕ) → power-lts.Need-returns-then-n-eq0-2 (power_below t, power.Post) (power_at t) power.Post
+returns_2 t c = power_even _ _ _ c.power-half.ensures c.if-n-eq0-2.true
 
-mul_result : (t : ℕ) → power-lts.Need-overflow-mul-result (power_below t, power.Post) (power_at t) power.Post
+mul_result : (t : ℕ) → power-lts.Need-overflow_mul-result (power_below t, power.Post) (power_at t) power.Post
 mul_result t c =
-    let start = c.before.before.before in
-    let half = c.before.power.result in
-    omega (arith, product_fits (half * half % prime) start.args.base (omega arith) start.requires.1)
+    let half = c.power-half.result in
+    omega (arith, product_fits (half * half % prime) c.args.base (omega arith) c.requires.1)
 
-returns_3 : (t : ℕ) → power-lts.Need-returns-3 (power_below t, power.Post) (power_at t) power.Post
-returns_3 t c = power_odd _ _ _ c.before.power.ensures c.if2.false
+returns_3 : (t : ℕ) → power-lts.Need-returns (power_below t, power.Post) (power_at t) power.Post
+returns_3 t c = power_odd _ _ _ c.power-half.ensures c.if-n-eq0-2.false
 
-pub +power-spec : {M : Type 1} → statement M
-+power-spec =
+pub +power_spec : {M : Type 1} → statement M
++power_spec =
     close
     μ-power
     (λ t.

@@ -10,36 +10,31 @@ use Rattle.numbers.specs.DigestLaws.{below-prime, text_next}
 use Rattle.numbers.proofs.digests.digest_text.Statement.{statement}
 use Rattle.numbers.proofs.digests.digest_text.Tie as tie
 
-abbrev invariant_loop : tie.invariant_loop
+abbrev invariant_loop : tie.invariant-loop-i
 invariant_loop names base digits o n h₀ i₀ h i = (i ≤ n) × (h ≡ digest base (map (counts digits) (text_at names o i)))
 
-abbrev decreases_loop : tie.decreases_loop
+abbrev decreases_loop : tie.decreases-loop-i
 decreases_loop names base digits o n h₀ i₀ h i = n - i
 
-loop_holds : tie.Need-loop-init invariant_loop decreases_loop
+loop_holds : tie.Need-loop-i-init invariant_loop decreases_loop
 unfolding digest_from
 loop_holds c = (omega arith, refl)
 
-mix_requires : tie.Need-mix-requires invariant_loop decreases_loop
+mix_requires : tie.Need-mix-h-requires invariant_loop decreases_loop
 mix_requires c κs =
-    let at-loop = c.before.before.before in
-    (at-loop.before.before.requires.0, below-prime _ _ at-loop.loop.invariant.1)
+    (c.requires.0, below-prime _ _ c.loop-i.invariant.1)
 
-loop_again : tie.Need-loop-preserved invariant_loop decreases_loop
+loop_again : tie.Need-loop-i-preserved invariant_loop decreases_loop
 loop_again c =
-    let at_byte = c.before in
-    let at_test = at_byte.before.before in
-    let at-loop = at_test.before in
-    let given = at-loop.before.before.args in
-    let mixed = c.mix.ensures ∙ ap₂ (more given.base) at-loop.loop.invariant.1 at_byte.counted.ensures in
-    (omega arith, mixed ∙ sym (text_next _ (counts given.digits) given.names.now given.o at-loop.loop.i (omega arith)))
+    let given = c.args in
+    let mixed = c.mix-h.ensures ∙ ap₂ (more given.base) c.loop-i.invariant.1 c.counted.ensures in
+    (omega arith, mixed ∙ sym (text_next _ (counts given.digits) given.names.now given.o c.loop-i.i (omega arith)))
 
 returns : tie.Need-returns invariant_loop decreases_loop
 returns c =
-    let at-loop = c.before in
-    let given = at-loop.before.before.args in
-    let done : at-loop.loop.i ≡ given.n = omega arith in
-    at-loop.loop.invariant.1 ∙ ap (λ k. digest given.base (map (counts given.digits) (text_at given.names.now given.o k))) done
+    let given = c.args in
+    let done : c.loop-i.i ≡ given.n = omega arith in
+    c.loop-i.invariant.1 ∙ ap (λ k. digest given.base (map (counts given.digits) (text_at given.names.now given.o k))) done
 
 pub digest_text_spec : {M : Type 1} → statement M
 digest_text_spec =

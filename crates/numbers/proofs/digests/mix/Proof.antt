@@ -6,10 +6,10 @@ use Rattle.numbers.specs.DigestLaws.{product_fits}
 use Rattle.numbers.proofs.digests.mix.Statement.{statement}
 use Rattle.numbers.proofs.digests.mix.Tie as tie
 
-mul_result : tie.Need-overflow-mul-result
+mul_result : tie.Need-overflow_mul-result
 mul_result c = omega (arith, product_fits c.args.h c.args.base c.requires.1 c.requires.0)
 
-add_result : tie.Need-overflow-add-result
+add_result : tie.Need-overflow_add-result
 add_result c = omega (arith, product_fits c.args.h c.args.base c.requires.1 c.requires.0)
 
 returns : tie.Need-returns
