@@ -37,11 +37,12 @@ digit-after false v d n = refl
 module _ (f s : Bool) (v b : ℕ) where
   pub space_seen : b ≡ 32 → s ≡ true → columns_by false false 0 ≡ byte (columns_by f s v) b
   unfolding space columns_by
-  space_seen e g = sym (byte-space _ b e ∙ rw g (elim f [ true ↦ refl | false ↦ refl ]))
+  space_seen e g = sym (byte-space _ b e ∙ rw g (elim f as (λ k. space (columns_by k true v) ≡ columns_by false false 0) [ true ↦ refl | false ↦ refl ]))
 
   pub space_blank : b ≡ 32 → s ≡ false → columns_by f s v ≡ byte (columns_by f s v) b
   unfolding space columns_by
-  space_blank e g = sym (byte-space _ b e ∙ rw g (elim f [ true ↦ refl | false ↦ refl ]))
+  space_blank e g =
+      sym (byte-space _ b e ∙ rw g (elim f as (λ k. space (columns_by k false v) ≡ columns_by k false v) [ true ↦ refl | false ↦ refl ]))
 
   -- Neither a space nor a digit.
   pub byte_low : (b ≡ 32 → ⊥) → b < 48 → columns_by false false 0 ≡ byte (columns_by f s v) b
@@ -55,11 +56,13 @@ module _ (f s : Bool) (v b : ℕ) where
   -- A digit: the first, after a leading zero, after a number.
   pub digit-first : 48 ≤ b → b ≤ 57 → s ≡ false → columns_by f true (b - 48) ≡ byte (columns_by f s v) b
   unfolding digit columns_by
-  digit-first h k g = sym (byte-digit _ b h k ∙ rw g (elim f [ true ↦ refl | false ↦ refl ]))
+  digit-first h k g =
+      sym (byte-digit _ b h k ∙ rw g (elim f as (λ x. digit (columns_by x false v) (b - 48) ≡ columns_by x true (b - 48)) [ true ↦ refl | false ↦ refl ]))
 
   pub digit_zero : 48 ≤ b → b ≤ 57 → s ≡ true → v ≡ 0 → columns_by false false 0 ≡ byte (columns_by f s v) b
   unfolding digit columns_by
-  digit_zero h k g z = sym (byte-digit _ b h k ∙ rw (g, z) (elim f [ true ↦ refl | false ↦ refl ]))
+  digit_zero h k g z =
+      sym (byte-digit _ b h k ∙ rw (g, z) (elim f as (λ x. digit (columns_by x true 0) (b - 48) ≡ columns_by false false 0) [ true ↦ refl | false ↦ refl ]))
 
   pub digit-more : 48 ≤ b → b ≤ 57 → s ≡ true → (v ≡ 0 → ⊥) → columns_by f true (10 * v + (b - 48)) ≡ byte (columns_by f s v) b
   digit-more h k g z = sym (byte-digit _ b h k ∙ rw g (digit-after f v (b - 48) z))

@@ -5,10 +5,10 @@ use lib.ListN.{length}
 use Rattle.lines.proofs.decimal.Statement.{statement}
 use Rattle.lines.proofs.decimal.Tie as tie
 
-abbrev invariant_loop : tie.invariant_loop
+abbrev invariant_loop : tie.invariant-loop-i
 invariant_loop t n₀ i₀ n i = (i ≤ length t) × (n ≤ 2000000000000)
 
-abbrev decreases_loop : tie.decreases_loop
+abbrev decreases_loop : tie.decreases-loop-i
 decreases_loop t n₀ i₀ n i = length t - i
 
 pub decimal_spec : {M : Type 1} → statement M

@@ -5,10 +5,10 @@ use lib.ListN.{length}
 use Rattle.lines.proofs.find.Statement.{statement}
 use Rattle.lines.proofs.find.Tie as tie
 
-abbrev invariant_loop : tie.invariant_loop
+abbrev invariant_loop : tie.invariant-loop-at
 invariant_loop list word k₀ at₀ k at = (at ≤ length list) × (k ≤ at)
 
-abbrev decreases_loop : tie.decreases_loop
+abbrev decreases_loop : tie.decreases-loop-at
 decreases_loop list word k₀ at₀ k at = length list - at
 
 pub find_spec : {M : Type 1} → statement M

@@ -5,10 +5,10 @@ use lib.ListN.{length}
 use Rattle.lines.proofs.token_end.Statement.{statement}
 use Rattle.lines.proofs.token_end.Tie as tie
 
-abbrev invariant_loop : tie.invariant_loop
+abbrev invariant_loop : tie.invariant-loop-i
 invariant_loop line at first last i₀ i = (at < i) × (i ≤ length line)
 
-abbrev decreases_loop : tie.decreases_loop
+abbrev decreases_loop : tie.decreases-loop-i
 decreases_loop line at first last i₀ i = length line - i
 
 pub token_end_spec : {M : Type 1} → statement M

@@ -9,6 +9,7 @@ use native.Mathlib.Omega.{arith}
 use Rattle.numbers.specs.Numbers.{Same}
 use Rattle.numbers.specs.NumbersLaws.{never}
 use Rattle.numbers.proofs.all_same.Statement.{statement}
+use Rattle.numbers.proofs.all_same.Lts.{then-numbers-s, else-numbers-s}
 use Rattle.numbers.proofs.all_same.Tie as tie
 
 abbrev invariant_loop : tie.invariant-loop-i
@@ -24,7 +25,10 @@ loop_again : tie.Need-loop-i-preserved invariant_loop decreases_loop
 loop_again c =
     (
       omega arith,
-      λ e. ⊎_elim (λ w. never e w.1) (λ w. below_more _ _ (c.loop-i.invariant.1 (sym w.1 ∙ e)) w.0.left) c.if-numbers-s.branch,
+      λ e. elim c.if-numbers-s.branch [
+        then-numbers-s w ↦ never e w.same-is
+        | else-numbers-s w ↦ below_more _ _ (c.loop-i.invariant.1 (sym w.same-is ∙ e)) w.if-numbers-s.false
+      ],
     )
 
 returns : tie.Need-returns invariant_loop decreases_loop

@@ -12,6 +12,7 @@ use Rattle.numbers.specs.Numbers.{Numbers}
 use Rattle.numbers.specs.NumbersLaws.{never}
 use Rattle.numbers.specs.NumberingLaws.{attempts, attempts_fall}
 use Rattle.numbers.proofs.number_terms.Statement.{statement}
+use Rattle.numbers.proofs.number_terms.Lts.{then-left-ne0, else-left-ne0}
 use Rattle.numbers.proofs.number_terms.Tie as tie
 
 abbrev invariant_loop : tie.invariant-loop-done
@@ -35,8 +36,10 @@ loop_less : tie.Need-loop-done-smaller invariant_loop decreases_loop
 loop_less c =
     attempts_fall c.loop-done.done _ c.loop-done.left c.if-left-ne0.left (not-true _ c.loop-done-test.true-raw)
     (λ e.
-    ⊎_elim (λ w. omega (arith, w.0.taken, w.1))
-    (λ w. never (c.number_within-done.ensures.1 (omega (arith, c.most_of-most.ensures w.0.left))) e) c.if-left-ne0.branch)
+    elim c.if-left-ne0.branch [
+      then-left-ne0 w ↦ omega (arith, w.if-left-ne0.true, w.left-is)
+      | else-left-ne0 w ↦ never (c.number_within-done.ensures.1 (omega (arith, c.most_of-most.ensures w.if-left-ne0.false))) e
+    ])
 
 loop_again : tie.Need-loop-done-preserved invariant_loop decreases_loop
 loop_again c =

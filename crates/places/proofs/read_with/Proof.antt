@@ -43,8 +43,8 @@ below c now = rw decode-length at now.low
 -- the node that is read
 is : (c : tie.After-get_node-here invariant_loop decreases_loop) (used : ℕ) {terms : ℕ}
     → let at-loop = c.before in
-    Now at-loop used terms → as_node c.get_node-here.result ≡ node_at (nodes_in at-loop.args.nodes.now used) at-loop.loop-done.at.node
-is c used now = below_at _ used _ c.get_node-here.ensures (below c.before now)
+    Now at-loop.before used terms → as_node c.get_node-here.result ≡ node_at (nodes_in at-loop.args.nodes.now used) at-loop.loop-done.at.node
+is c used now = below_at _ used _ c.get_node-here.ensures (below c.before.before now)
 
 -- the piece of a turn
 fits : (c : tie.In-loop-done invariant_loop decreases_loop)
@@ -70,15 +70,15 @@ loop_less c =
     let used_up = c.before in
     let read = used_up.before in
     let in-loop = read.before in
-    let now = reading in-loop.before in
-    omega (arith, turn_low now in-loop.loop-done-test.true (is read _ now) used_up.if-here-at.true)
+    let now = reading in-loop.before.before.before.before in
+    omega (arith, turn_low now in-loop.loop-done-test.true (is read.before.before.before _ now) used_up.if-here-at.true)
 
 loop_again : tie.Need-loop-done-preserved-then-here-at invariant_loop decreases_loop
 loop_again c used terms store reaches =
     let used_up = c.before in
     let read = used_up.before in
     let now = read.loop-done.invariant used terms store reaches in
-    turn_on now read.loop-done-test.true (is read used now) used_up.if-here-at.true
+    turn_on now read.loop-done-test.true (is read.before.before.before used now) used_up.if-here-at.true
 
 -- ---- a run ----
 
@@ -93,30 +93,30 @@ run c =
     let read = inner.before in
     let in-loop = read.before in
     let at-loop = in-loop.before in
-    let now = reading at-loop in
+    let now = reading at-loop.before.before.before.before.before in
     let k : c.smaller-k.result ≡ min at-loop.loop-done.at.left (read.get_node-here.result.b - at-loop.loop-done.at.skip) = c.smaller-k.ensures in
     let q : at-loop.loop-done.at.skip < read.get_node-here.result.b = inner.if-here-at.false in
-    let l = run_inside now in-loop.loop-done-test.true (is read _ now) is-cons.if-here-eq-CONS.true q k in
+    let l = run_inside now in-loop.loop-done-test.true (is read.before.before.before.before.before _ now) is-cons.if-here-eq-CONS.true q k in
     let few = at-loop.requires.0.store.few_terms in
-    let some = (fits in-loop).some in
+    let some = (fits in-loop.before.before.before.before.before).some in
     (omega arith, omega arith, omega arith)
 
 put_run_requires : tie.Need-put_run-requires invariant_loop decreases_loop
 put_run_requires c κs =
     let at-run = c.before in
     let in-loop = at-run.before in
-    (omega (arith, fits in-loop, (run at-run).2), (run at-run).0)
+    (omega (arith, fits in-loop.before.before.before.before.before.before.before.before.before.before, (run at-run.before.before).2), (run at-run.before.before).0)
 
 add_done : tie.Need-overflow_add-done invariant_loop decreases_loop
 add_done c =
     let at-run = c.before in
     let in-loop = at-run.before in
-    omega (arith, fits in-loop, (run at-run).2)
+    omega (arith, fits in-loop.before.before.before.before.before.before.before.before.before.before.before.before.before, (run at-run.before.before.before.before.before).2)
 
 past_requires : tie.Need-past-at-requires invariant_loop decreases_loop
 past_requires c κs =
     let in-loop = c.before in
-    ((fits in-loop).short, omega (arith, fits in-loop))
+    ((fits in-loop.before.before.before.before.before.before.before.before.before.before.before.before.before.before).short, omega (arith, fits in-loop.before.before.before.before.before.before.before.before.before.before.before.before.before.before))
 
 loop_again_2 : tie.Need-loop-done-preserved-then-here-eq-CONS invariant_loop decreases_loop
 loop_again_2 c used terms store reaches =
@@ -126,7 +126,7 @@ loop_again_2 c used terms store reaches =
     let inner = is-cons.before in
     let read = inner.before in
     let now = read.loop-done.invariant used terms store reaches in
-    turn-run now read.loop-done-test.true (is read used now) is-cons.if-here-eq-CONS.true inner.if-here-at.false at-run.smaller-k.ensures c.past-at.ensures put.put_run.ensures
+    turn-run now read.loop-done-test.true (is read.before.before.before.before.before.before.before.before.before.before used now) is-cons.if-here-eq-CONS.true inner.if-here-at.false at-run.smaller-k.ensures c.past-at.ensures put.put_run.ensures
 
 loop_less_2 : tie.Need-loop-done-smaller-then-here-eq-CONS invariant_loop decreases_loop
 loop_less_2 c =
@@ -135,14 +135,14 @@ loop_less_2 c =
     let asked = in-loop.requires.0 in
     let next : c.past-at.result.node < limit =
     omega (arith, rw decode-length at (loop_again_2 c _ _ asked.store.store asked.reaches).low, asked.store.store.few) in
-    let end = (fits in-loop).most in
-    let within = (run at-run).2 in
-    read_less _ _ _ _ _ (run at-run).1 (omega arith) next
+    let end = (fits in-loop.before.before.before.before.before.before.before.before.before.before.before.before.before.before).most in
+    let within = (run at-run.before.before.before.before.before.before).2 in
+    read_less _ _ _ _ _ (run at-run.before.before.before.before.before.before).1 (omega arith) next
 
 -- ---- the piece was read before ----
 
 read_before_requires : tie.Need-read_before-before-requires invariant_loop decreases_loop
-read_before_requires c κs = let in-loop = c.before in ((fits in-loop).low, omega (arith, (fits in-loop).short))
+read_before_requires c κs = let in-loop = c.before in ((fits in-loop.before.before.before.before.before).low, omega (arith, (fits in-loop.before.before.before.before.before).short))
 
 sub_copy_up : tie.Need-overflow_sub-before invariant_loop decreases_loop
 sub_copy_up c = omega (arith, c.if-before-ne0.true)
@@ -152,17 +152,17 @@ copy_up_requires c κs =
     let known = c.before in
     let in-loop = known.before in
     let found = known.read_before-before.ensures known.if-before-ne0.true in
-    (found.there, omega (arith, fits in-loop))
+    (found.there, omega (arith, fits in-loop.before.before.before.before.before.before.before))
 
 add_done_2 : tie.Need-overflow_add-done-then-before-ne0 invariant_loop decreases_loop
 add_done_2 c =
     let in-loop = c.before in
-    omega (arith, fits in-loop)
+    omega (arith, fits in-loop.before.before.before.before.before.before.before.before.before.before.before.before)
 
 past_requires_2 : tie.Need-past-at-requires-then-before-ne0 invariant_loop decreases_loop
 past_requires_2 c κs =
     let in-loop = c.before in
-    ((fits in-loop).short, omega (arith, fits in-loop))
+    ((fits in-loop.before.before.before.before.before.before.before.before.before.before.before.before).short, omega (arith, fits in-loop.before.before.before.before.before.before.before.before.before.before.before.before))
 
 loop_again_3 : tie.Need-loop-done-preserved-then-before-ne0 invariant_loop decreases_loop
 loop_again_3 c used terms store reaches =
@@ -176,15 +176,15 @@ loop_less_3 c =
     let asked = in-loop.requires.0 in
     let next : c.past-at-then-before-ne0.result.node < limit =
     omega (arith, rw decode-length at (loop_again_3 c _ _ asked.store.store asked.reaches).low, asked.store.store.few) in
-    let end = (fits in-loop).most in
-    read_less _ _ _ _ _ (fits in-loop).some (omega arith) next
+    let end = (fits in-loop.before.before.before.before.before.before.before.before.before.before.before.before.before).most in
+    read_less _ _ _ _ _ (fits in-loop.before.before.before.before.before.before.before.before.before.before.before.before.before).some (omega arith) next
 
 -- ---- a Concat that was not: into its left ----
 
 note_requires : tie.Need-note-requires invariant_loop decreases_loop
 note_requires c κs =
     let in-loop = c.before in
-    ((fits in-loop).low, omega (arith, fits in-loop), omega (arith, fits in-loop))
+    ((fits in-loop.before.before.before.before.before.before.before.before).low, omega (arith, fits in-loop.before.before.before.before.before.before.before.before), omega (arith, fits in-loop.before.before.before.before.before.before.before.before))
 
 down_requires : tie.Need-down-at-requires invariant_loop decreases_loop
 down_requires c κs =
@@ -192,10 +192,10 @@ down_requires c κs =
     let inner = not-cons.before in
     let read = inner.before in
     let in-loop = read.before in
-    let now = reading in-loop.before in
-    let right = turn-right now in-loop.loop-done-test.true (is read _ now) not-cons.if-here-eq-CONS.false inner.if-here-at.false in
-    -loop in
-    (omega (arith, inner.if-here-at.false), omega (arith, fits.short), omega (arith, right, fits.low), omega (arith, fits in-loop))
+    let now = reading in-loop.before.before.before.before.before.before.before.before in
+    let right = turn-right now in-loop.loop-done-test.true (is read.before.before.before.before.before.before.before _ now) not-cons.if-here-eq-CONS.false inner.if-here-at.false in
+    let at = fits in-loop.before.before.before.before.before.before.before in
+    (omega (arith, inner.if-here-at.false), omega (arith, at.short), omega (arith, right, at.low), omega (arith, fits in-loop.before.before.before.before.before.before.before))
 
 loop_less_4 : tie.Need-loop-done-smaller invariant_loop decreases_loop
 loop_less_4 c =
@@ -203,8 +203,8 @@ loop_less_4 c =
     let inner = not-cons.before in
     let read = inner.before in
     let in-loop = read.before in
-    let now = reading in-loop.before in
-    omega (arith, turn-left now in-loop.loop-done-test.true (is read _ now) not-cons.if-here-eq-CONS.false inner.if-here-at.false c.down-at.ensures)
+    let now = reading in-loop.before.before.before.before.before.before.before.before.before in
+    omega (arith, turn-left now in-loop.loop-done-test.true (is read.before.before.before.before.before.before.before.before _ now) not-cons.if-here-eq-CONS.false inner.if-here-at.false c.down-at.ensures)
 
 loop_again_4 : tie.Need-loop-done-preserved invariant_loop decreases_loop
 loop_again_4 c used terms store reaches =
@@ -214,8 +214,8 @@ loop_again_4 c used terms store reaches =
     let read = inner.before in
     let in-loop = read.before in
     let now = in-loop.loop-done.invariant used terms store reaches in
-    turn_down now in-loop.loop-done-test.true (is read used now) not-cons.if-here-eq-CONS.false inner.if-here-at.false
-    (omega (arith, fits in-loop)) noted.note.ensures c.down-at.ensures
+    turn_down now in-loop.loop-done-test.true (is read.before.before.before.before.before.before.before used now) not-cons.if-here-eq-CONS.false inner.if-here-at.false
+    (omega (arith, fits in-loop.before.before.before.before.before.before.before)) noted.note.ensures c.down-at.ensures
 
 returns : tie.Need-returns invariant_loop decreases_loop
 returns c =
@@ -236,7 +236,7 @@ read_with_spec =
     loop_again
     (λ c. omega arith)
     (λ c κs. tt)
-    (λ c. omega (arith, (run c.before).0))
+    (λ c. omega (arith, (run c.before.before.before).0))
     put_run_requires
     add_done
     past_requires

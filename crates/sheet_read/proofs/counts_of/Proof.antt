@@ -5,7 +5,7 @@ use Rattle.sheet_read.proofs.counts_of.Statement.{statement}
 use Rattle.sheet_read.proofs.counts_of.Tie as tie
 
 returns : tie.Need-returns
-returns c = counts_same _ c.before.before.before.number_at.ensures c.before.before.number-at2.ensures c.before.number-at3.ensures c.number-at4.ensures
+returns c = counts_same _ c.number_at.ensures c.number_at-2.ensures c.number_at-3.ensures c.number_at-4.ensures
 
 pub counts_of_spec : {M : Type 1} → statement M
 counts_of_spec =

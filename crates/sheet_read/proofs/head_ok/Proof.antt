@@ -6,26 +6,21 @@ use Rattle.sheet_read.specs.SheetLaws.{head_line_stop, head_limits_stop, head_en
 use Rattle.sheet_read.proofs.head_ok.Statement.{statement}
 use Rattle.sheet_read.proofs.head_ok.Tie as tie
 
-returns : tie.Need-returns
-returns c = let at-line = c.before in head_line_stop _ _ at-line.before.before.requires at-line.line_ok.ensures (not-true _ c.if1.true)
+returns : tie.Need-returns-then-not-line_ok
+returns c = head_line_stop _ _ c.requires c.line_ok.ensures (not-true _ c.if-not-line_ok.true-raw)
 
-returns_2 : tie.Need-returns-2
+returns_2 : tie.Need-returns-then-not-within_limits
 returns_2 c =
-    let at-if1 = c.before.before in
-    let at-line = at-if1.before in
-    head_limits_stop _ _ at-line.before.before.requires at-line.line_ok.ensures c.before.within-limits.ensures (not-false _ at-if1.if1.false)
-    (not-true _ c.if2.true)
+    head_limits_stop _ _ c.requires c.line_ok.ensures c.within_limits.ensures (not-false _ c.if-not-line_ok.false-raw)
+    (not-true _ c.if-not-within_limits.true-raw)
 
 end_requires : tie.Need-end-requires
-end_requires c κs = rule-holds c.before.within-limits.ensures c.if2.false
+end_requires c κs = rule-holds c.within_limits.ensures c.if-not-within_limits.false-raw
 
-returns_3 : tie.Need-returns-3
+returns_3 : tie.Need-returns
 returns_3 c =
-    let at-if2 = c.before in
-    let at-if1 = at-if2.before.before in
-    let at-line = at-if1.before in
-    head_end _ _ at-line.before.before.requires at-line.line_ok.ensures at-if2.before.within-limits.ensures (not-false _ at-if1.if1.false)
-    c.end.ensures (not-false _ at-if2.if2.false)
+    head_end _ _ c.requires c.line_ok.ensures c.within_limits.ensures (not-false _ c.if-not-line_ok.false-raw)
+    c.end.ensures (not-false _ c.if-not-within_limits.false-raw)
 
 pub head_ok_spec : {M : Type 1} → statement M
 head_ok_spec =

@@ -7,26 +7,23 @@ use Rattle.sheet_read.specs.SheetLaws.{names_over, names_short, names_there}
 use Rattle.sheet_read.proofs.names_part.Statement.{statement}
 use Rattle.sheet_read.proofs.names_part.Tie as tie
 
-returns : tie.Need-returns
-returns c = let at-if1 = c.before in names_over _ _ at-if1.before.within-limits.ensures (not-true _ at-if1.if1.true)
+returns : tie.Need-returns-then-not-within_limits
+returns c = names_over _ _ c.within_limits.ensures (not-true _ c.if-not-within_limits.true-raw)
 
-names_start_requires : tie.Need-names-start-requires
-names_start_requires c κs = rule-holds c.before.within-limits.ensures c.if1.false
+names_start_requires : tie.Need-names_start-a-requires
+names_start_requires c κs = rule-holds c.within_limits.ensures c.if-not-within_limits.false-raw
 
-names_end_requires : tie.Need-names-end-requires
-names_end_requires c κs = let at-if1 = c.before in rule-holds at-if1.before.within-limits.ensures at-if1.if1.false
+names_end_requires : tie.Need-names_end-e-requires
+names_end_requires c κs = rule-holds c.within_limits.ensures c.if-not-within_limits.false-raw
 
-returns_2 : tie.Need-returns-2
+returns_2 : tie.Need-returns-then-text-e
 returns_2 c =
-    let at-if1 = c.before.before.before.before in
-    names_short _ _ at-if1.before.within-limits.ensures (not-false _ at-if1.if1.false) (omega arith)
+    names_short _ _ c.within_limits.ensures (not-false _ c.if-not-within_limits.false-raw) (omega arith)
 
-returns_3 : tie.Need-returns-3
+returns_3 : tie.Need-returns
 returns_3 c =
-    let at-end = c.before.before in
-    let at-if1 = at-end.before.before in
-    names_there _ _ at-if1.before.within-limits.ensures at-end.before.names-start.ensures at-end.names-end.ensures (not-false _ at-if1.if1.false)
-    c.before.if2.false
+    names_there _ _ c.within_limits.ensures c.names_start-a.ensures c.names_end-e.ensures (not-false _ c.if-not-within_limits.false-raw)
+    c.if-text-e.false
 
 pub names_part_spec : {M : Type 1} → statement M
 names_part_spec =

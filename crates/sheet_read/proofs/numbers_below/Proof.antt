@@ -8,27 +8,25 @@ use Rattle.sheet_read.specs.LineLaws.{below-start, below_stop, below_next, below
 use Rattle.sheet_read.proofs.numbers_below.Statement.{statement}
 use Rattle.sheet_read.proofs.numbers_below.Tie as tie
 
-abbrev invariant_loop : tie.invariant_loop
+abbrev invariant_loop : tie.invariant-loop-i
 invariant_loop text p bound n i₀ i = (i ≤ n) × (spec_numbers_below text bound p n ≡ spec_numbers_below text bound (p + 10 * i) (n - i))
 
-abbrev decreases_loop : tie.decreases_loop
+abbrev decreases_loop : tie.decreases-loop-i
 decreases_loop text p bound n i₀ i = n - i
 
-loop_holds : tie.Need-loop-init invariant_loop decreases_loop
+loop_holds : tie.Need-loop-i-init invariant_loop decreases_loop
 loop_holds c = (omega arith, below-start _ _ _ _)
 
-returns : tie.Need-returns invariant_loop decreases_loop
+returns : tie.Need-returns-then-bound-number_at invariant_loop decreases_loop
 returns c =
-    let at_test = c.before.before in
-    below_stop _ _ _ _ _ at_test.before.loop.invariant.1 at_test.loop-test.true c.before.number_at.ensures c.if1.true
+    below_stop _ _ _ _ _ c.loop-i.invariant.1 c.loop-i-test.true c.number_at.ensures c.if-bound-number_at.true
 
-loop_again : tie.Need-loop-preserved invariant_loop decreases_loop
+loop_again : tie.Need-loop-i-preserved invariant_loop decreases_loop
 loop_again c =
-    let at_test = c.before.before in
-    (omega arith, below_next _ _ _ _ _ at_test.before.loop.invariant.1 at_test.loop-test.true c.before.number_at.ensures c.if1.false)
+    (omega arith, below_next _ _ _ _ _ c.loop-i.invariant.1 c.loop-i-test.true c.number_at.ensures c.if-bound-number_at.false)
 
-returns_2 : tie.Need-returns-2 invariant_loop decreases_loop
-returns_2 c = below_done _ _ _ _ _ c.before.loop.invariant.1 c.loop-test.false
+returns_2 : tie.Need-returns invariant_loop decreases_loop
+returns_2 c = below_done _ _ _ _ _ c.loop-i.invariant.1 c.loop-i-test.false
 
 pub numbers_below_spec : {M : Type 1} → statement M
 numbers_below_spec =

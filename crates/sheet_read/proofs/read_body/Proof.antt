@@ -14,39 +14,35 @@ head s = head_facts _ _ s.requires.0.head
 body : (s : tie.Start) → BodyFacts s.args.text.now (as_counts s.args.c)
 body s = body_facts _ _ s.requires.0.body
 
-read_lines_requires : tie.Need-read-lines-requires
+read_lines_requires : tie.Need-read_lines-requires
 read_lines_requires c κs =
-    let start = c.before.before.before.before.before in
-    ((omega (arith, head start), omega arith, start.requires.1.terms), (body start).terms)
+    let start = c.before in
+    ((omega (arith, head start.before.before.before.before), omega arith, start.requires.1.terms), (body start.before.before.before.before).terms)
 
-pattern_start_requires : tie.Need-pattern-start-requires
-pattern_start_requires c κs = let start = c.before.before.before.before.before.before.before.before in head_limits _ _ start.requires.0.head
+pattern_start_requires : tie.Need-pattern_start-requires
+pattern_start_requires c κs = head_limits _ _ c.requires.0.head
 
-read_lines_requires_2 : tie.Need-read-lines-requires-2
+read_lines_requires_2 : tie.Need-read_lines-requires-2
 read_lines_requires_2 c κs =
     let at-pattern = c.before in
-    let start = at-pattern.before.before.before.before.before.before.before.before.before in
-    ((omega (arith, head start, at-pattern.pattern-start.ensures), omega arith, start.requires.1.pattern), rw at-pattern.pattern-start.ensures (body start).pattern)
+    let start = at-pattern.before in
+    ((omega (arith, head start.before.before.before.before.before.before.before.before, at-pattern.pattern_start.ensures), omega arith, start.requires.1.pattern), rw at-pattern.pattern_start.ensures (body start.before.before.before.before.before.before.before.before).pattern)
 
-runs_start_requires : tie.Need-runs-start-requires
+runs_start_requires : tie.Need-runs_start-requires
 runs_start_requires c κs =
-    let at-pattern = c.before.before.before.before in
-    let start = at-pattern.before.before.before.before.before.before.before.before.before in
-    head_limits _ _ start.requires.0.head
+    head_limits _ _ c.requires.0.head
 
-read_lines_requires_3 : tie.Need-read-lines-requires-3
+read_lines_requires_3 : tie.Need-read_lines-requires-3
 read_lines_requires_3 c κs =
     let at-runs = c.before in
-    let at-pattern = at-runs.before.before.before.before.before in
-    let start = at-pattern.before.before.before.before.before.before.before.before.before in
-    ((omega (arith, head start, at-runs.runs-start.ensures), omega arith, start.requires.1.runs), rw at-runs.runs-start.ensures (body start).runs)
+    let at-pattern = at-runs.before in
+    let start = at-pattern.before in
+    ((omega (arith, head start.before.before.before.before.before.before.before.before.before.before.before.before, at-runs.runs_start.ensures), omega arith, start.requires.1.runs), rw at-runs.runs_start.ensures (body start.before.before.before.before.before.before.before.before.before.before.before.before).runs)
 
 returns : tie.Need-returns
 returns c =
-    let at-runs = c.before.before.before.before in
-    let at-pattern = at-runs.before.before.before.before.before in
-    all-filled _ _ _ _ _ at-pattern.before.before.before.read_lines.ensures at-pattern.pattern-start.ensures at-runs.before.before.before.read-lines2.ensures
-    at-runs.runs-start.ensures c.before.before.read-lines3.ensures
+    all-filled _ _ _ _ _ c.read_lines.ensures c.pattern_start.ensures c.read_lines-2.ensures
+    c.runs_start.ensures c.read_lines-3.ensures
 
 pub read_body_spec : {M : Type 1} → statement M
 read_body_spec =

@@ -9,34 +9,31 @@ use Rattle.sheet_read.specs.LineLaws.{number-below, numbers_none, numbers_kept, 
 use Rattle.sheet_read.proofs.read_numbers.Statement.{statement}
 use Rattle.sheet_read.proofs.read_numbers.Tie as tie
 
-abbrev invariant_loop : tie.invariant_loop
+abbrev invariant_loop : tie.invariant-loop-i
 invariant_loop text p kept out₀ w i₀ out i = (i ≤ kept) × (out ≡ laid_at out₀ w (numbers_at text p i))
 
-abbrev decreases_loop : tie.decreases_loop
+abbrev decreases_loop : tie.decreases-loop-i
 decreases_loop text p kept out₀ w i₀ out i = kept - i
 
-loop_holds : tie.Need-loop-init invariant_loop decreases_loop
+loop_holds : tie.Need-loop-i-init invariant_loop decreases_loop
 loop_holds c = (omega arith, numbers_none _ _ 0 _ _)
 
-set_word_requires : tie.Need-set-word-requires invariant_loop decreases_loop
+set_word_requires : tie.Need-set_word-requires invariant_loop decreases_loop
 set_word_requires c κs =
-    let at-loop = c.before.before.before in
-    let at-start = at-loop.before.before.before in (
-      numbers_room _ _ _ _ _ (omega arith) at-loop.loop.invariant.1,
-      omega (arith, number-below _ _ _ _ at-start.requires.1 c.before.before.loop-test.true),
+    (
+      numbers_room _ _ _ _ _ (omega arith) c.loop-i.invariant.1,
+      omega (arith, number-below _ _ _ _ c.requires.1 c.loop-i-test.true),
     )
 
-loop_again : tie.Need-loop-preserved invariant_loop decreases_loop
+loop_again : tie.Need-loop-i-preserved invariant_loop decreases_loop
 loop_again c =
-    let at-number-at = c.before.before.before in
-    let at-loop = at-number-at.before.before.before in
-    (omega arith, numbers_set _ _ _ _ _ (omega arith) at-loop.loop.invariant.1 at-number-at.number_at.ensures c.before.before.set_word.ensures)
+    (omega arith, numbers_set _ _ _ _ _ (omega arith) c.loop-i.invariant.1 c.number_at.ensures c.set_word.ensures)
 
-same_length : tie.Need-same-length invariant_loop decreases_loop
-same_length c = ap length c.before.loop.invariant.1 ∙ numbers_kept _ _ _ _ _ (omega arith)
+same_length : tie.Need-shape_of-out invariant_loop decreases_loop
+same_length c = ap length c.loop-i.invariant.1 ∙ numbers_kept _ _ _ _ _ (omega arith)
 
 returns : tie.Need-returns invariant_loop decreases_loop
-returns c = numbers_all _ _ _ _ _ _ c.before.loop.invariant.0 c.loop-test.false c.before.loop.invariant.1
+returns c = numbers_all _ _ _ _ _ _ c.loop-i.invariant.0 c.loop-i-test.false c.loop-i.invariant.1
 
 pub read_numbers_spec : {M : Type 1} → statement M
 read_numbers_spec =

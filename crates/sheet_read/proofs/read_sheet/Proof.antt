@@ -11,79 +11,75 @@ use Rattle.sheet_read.proofs.read_sheet.Statement.{statement}
 use Rattle.sheet_read.proofs.read_sheet.Tie as tie
 
 -- Past the tests of the text it is in form.
-form : (e : tie.Else3)
-    → let at-counts = e.before.before.before.before in
-    InForm at-counts.before.before.before.before.before.before.args.text.now (as_counts at-counts.counts_of.result)
+form : (e : tie.Else-not-body_ok)
+    → InForm e.args.text.now (as_counts e.counts_of-c.result)
 form e =
-    let at-if2 = e.before.before in
-    record { head = rule-holds at-if2.before.head_ok.ensures at-if2.if2.false; body = rule-holds e.before.body_ok.ensures e.if3.false }
+    record { head = rule-holds e.head_ok.ensures e.if-not-head_ok.false-raw; body = rule-holds e.body_ok.ensures e.if-not-body_ok.false-raw }
 
-returns : tie.Need-returns
+returns : tie.Need-returns-then-text-lt-LINE
 unfolding read_of
-returns c = sheet-short _ _ _ _ c.if1.true
+returns c = sheet-short _ _ _ _ c.if-text-lt-LINE.true
 
-returns_2 : tie.Need-returns-2
+returns_2 : tie.Need-returns-then-not-head_ok
 unfolding read_of
-returns_2 c = sheet_head _ _ _ _ c.before.before.counts_of.ensures c.before.head_ok.ensures (not-true _ c.if2.true)
+returns_2 c = sheet_head _ _ _ _ c.counts_of-c.ensures c.head_ok.ensures (not-true _ c.if-not-head_ok.true-raw)
 
-body_ok_requires : tie.Need-body-ok-requires
-body_ok_requires c κs = rule-holds c.before.head_ok.ensures c.if2.false
+body_ok_requires : tie.Need-body_ok-requires
+body_ok_requires c κs = rule-holds c.head_ok.ensures c.if-not-head_ok.false-raw
 
-returns_3 : tie.Need-returns-3
+returns_3 : tie.Need-returns-then-not-body_ok
 unfolding read_of
 returns_3 c =
-    let at-if2 = c.before.before in
-    let at_head_lem = at-if2.before in
-    sheet_body _ _ _ _ at_head_lem.before.counts_of.ensures at_head_lem.head_ok.ensures c.before.body_ok.ensures (not-false _ at-if2.if2.false)
-    (not-true _ c.if3.true)
+    sheet_body _ _ _ _ c.counts_of-c.ensures c.head_ok.ensures c.body_ok.ensures (not-false _ c.if-not-head_ok.false-raw)
+    (not-true _ c.if-not-body_ok.true-raw)
 
-mul_if4 : tie.Need-overflow-mul-if4
+mul_if4 : tie.Need-overflow_mul-c
 mul_if4 c = let at-if3 = c.before in omega (arith, head_facts _ _ (form at-if3).head)
 
-returns_4 : tie.Need-returns-4
+returns_4 : tie.Need-returns-then-terms-c
 unfolding read_of
 returns_4 c =
-    let at-if3 = c.before.before in
-    terms-short _ _ _ _ at-if3.before.before.before.before.counts_of.ensures (form at-if3) c.if4.true
+    let at-if3 = c.before in
+    terms-short _ _ _ _ at-if3.counts_of-c.ensures (form at-if3.before) c.if-terms-c.true
 
-mul_if5 : tie.Need-overflow-mul-if5
-mul_if5 c = let at-if3 = c.before.before.before in omega (arith, head_facts _ _ (form at-if3).head)
+mul_if5 : tie.Need-overflow_mul-c-2
+mul_if5 c = let at-if3 = c.before in omega (arith, head_facts _ _ (form at-if3.before.before).head)
 
-returns_5 : tie.Need-returns-5
+returns_5 : tie.Need-returns-then-pattern-c
 unfolding read_of
 returns_5 c =
-    let at-if4 = c.before.before in
-    let at-if3 = at-if4.before.before in
-    pattern_short _ _ _ _ at-if3.before.before.before.before.counts_of.ensures (form at-if3) at-if4.if4.false c.if5.true
+    let at-if4 = c.before in
+    let at-if3 = at-if4.before in
+    pattern_short _ _ _ _ at-if3.counts_of-c.ensures (form at-if3.before.before) at-if4.if-terms-c.false c.if-pattern-c.true
 
-mul_if6 : tie.Need-overflow-mul-if6
-mul_if6 c = let at-if3 = c.before.before.before.before.before in omega (arith, head_facts _ _ (form at-if3).head)
+mul_if6 : tie.Need-overflow_mul-c-3
+mul_if6 c = let at-if3 = c.before in omega (arith, head_facts _ _ (form at-if3.before.before.before.before).head)
 
-returns_6 : tie.Need-returns-6
+returns_6 : tie.Need-returns-then-runs-c
 unfolding read_of
 returns_6 c =
-    let at-if5 = c.before.before in
-    let at-if4 = at-if5.before.before in
-    let at-if3 = at-if4.before.before in
-    runs-short _ _ _ _ at-if3.before.before.before.before.counts_of.ensures (form at-if3) at-if4.if4.false at-if5.if5.false c.if6.true
+    let at-if5 = c.before in
+    let at-if4 = at-if5.before in
+    let at-if3 = at-if4.before in
+    runs-short _ _ _ _ at-if3.counts_of-c.ensures (form at-if3.before.before.before) at-if4.if-terms-c.false at-if5.if-pattern-c.false c.if-runs-c.true
 
-read_body_requires : tie.Need-read-body-requires
+read_body_requires : tie.Need-read_body-requires
 read_body_requires c κs =
-    let at-if6 = c.before.before.before in
-    let at-if5 = at-if6.before.before in
-    let at-if4 = at-if5.before.before in
-    (form at-if4.before.before, record { terms = at-if4.if4.false; pattern = at-if5.if5.false; runs = at-if6.if6.false })
+    let at-if6 = c.before in
+    let at-if5 = at-if6.before in
+    let at-if4 = at-if5.before in
+    (form at-if4.before.before.before.before.before.before, record { terms = at-if4.if-terms-c.false; pattern = at-if5.if-pattern-c.false; runs = at-if6.if-runs-c.false })
 
-returns_7 : tie.Need-returns-7
+returns_7 : tie.Need-returns
 unfolding read_of
 returns_7 c =
-    let at_body = c.before.before.before.before.before.before in
-    let at-if6 = at_body.before.before.before.before in
-    let at-if5 = at-if6.before.before in
-    let at-if4 = at-if5.before.before in
-    let at-if3 = at-if4.before.before in
-    sheet_read_lem _ _ _ _ at-if3.before.before.before.before.counts_of.ensures (form at-if3)
-    record { terms = at-if4.if4.false; pattern = at-if5.if5.false; runs = at-if6.if6.false } at_body.read-body.ensures
+    let at_body = c.before in
+    let at-if6 = at_body.before in
+    let at-if5 = at-if6.before in
+    let at-if4 = at-if5.before in
+    let at-if3 = at-if4.before in
+    sheet_read_lem _ _ _ _ at-if3.counts_of-c.ensures (form at-if3.before.before.before.before.before.before.before.before.before.before.before)
+    record { terms = at-if4.if-terms-c.false; pattern = at-if5.if-pattern-c.false; runs = at-if6.if-runs-c.false } at_body.read_body.ensures
 
 pub read_sheet_spec : {M : Type 1} → statement M
 read_sheet_spec =

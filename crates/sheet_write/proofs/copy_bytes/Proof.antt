@@ -10,27 +10,25 @@ use Rattle.sheet_write.specs.LineLaws.{bytes-turn, bytes_whole}
 use Rattle.sheet_write.proofs.copy_bytes.Statement.{statement}
 use Rattle.sheet_write.proofs.copy_bytes.Tie as tie
 
-abbrev invariant_loop : tie.invariant_loop
+abbrev invariant_loop : tie.invariant-loop-i
 invariant_loop out₀ p bytes i₀ out i = (i ≤ length bytes) × (length out ≡ length out₀) × (out ≡ laid_at out₀ p (take i bytes))
 
-abbrev decreases_loop : tie.decreases_loop
+abbrev decreases_loop : tie.decreases-loop-i
 decreases_loop out₀ p bytes i₀ out i = length bytes - i
 
-loop_holds : tie.Need-loop-init invariant_loop decreases_loop
+loop_holds : tie.Need-loop-i-init invariant_loop decreases_loop
 loop_holds c = (omega arith, refl, sym (laid_at_none _ _))
 
-loop_again : tie.Need-loop-preserved invariant_loop decreases_loop
+loop_again : tie.Need-loop-i-preserved invariant_loop decreases_loop
 loop_again c =
-    let at-loop = c.before.before in
-    let at-start = at-loop.before in
-    let h : at-loop.loop.i < length at-start.args.bytes.now = omega arith in
-    (omega arith, simp length-set at-loop.loop.invariant.1, bytes-turn _ _ _ _ _ h (omega arith) at-loop.loop.invariant.2)
+    let h : c.loop-i.i < length c.args.bytes.now = omega arith in
+    (omega arith, simp length-set c.loop-i.invariant.1, bytes-turn _ _ _ _ _ h (omega arith) c.loop-i.invariant.2)
 
-same_length : tie.Need-same-length invariant_loop decreases_loop
-same_length c = c.before.loop.invariant.1
+same_length : tie.Need-shape_of-out invariant_loop decreases_loop
+same_length c = c.loop-i.invariant.1
 
 returns : tie.Need-returns invariant_loop decreases_loop
-returns c = let h : length c.before.before.args.bytes.now ≤ c.before.loop.i = omega arith in bytes_whole _ _ _ _ _ h c.before.loop.invariant.2
+returns c = let h : length c.args.bytes.now ≤ c.loop-i.i = omega arith in bytes_whole _ _ _ _ _ h c.loop-i.invariant.2
 
 pub copy_bytes_spec : {M : Type 1} → statement M
 copy_bytes_spec =

@@ -6,18 +6,18 @@ use Rattle.sheet_write.specs.SheetLaws.{terms-uneven, pattern_uneven, runs-uneve
 use Rattle.sheet_write.proofs.sheet_ok.Statement.{statement}
 use Rattle.sheet_write.proofs.sheet_ok.Tie as tie
 
-returns : tie.Need-returns
+returns : tie.Need-returns-then-terms-ne0
 returns c = terms-uneven _ (λ e. omega arith)
 
-returns_2 : tie.Need-returns-2
+returns_2 : tie.Need-returns-then-pattern-ne0
 returns_2 c = pattern_uneven _ (omega arith) (λ e. omega arith)
 
-returns_3 : tie.Need-returns-3
+returns_3 : tie.Need-returns-then-runs-ne0
 returns_3 c = runs-uneven _ (omega arith) (omega arith) (λ e. omega arith)
 
-returns_4 : tie.Need-returns-4
+returns_4 : tie.Need-returns
 unfolding spec_counts_of
-returns_4 c = whole-limits _ (omega arith) (omega arith) (omega arith) c.before.counts_of.ensures c.within-limits.ensures
+returns_4 c = whole-limits _ (omega arith) (omega arith) (omega arith) c.counts_of.ensures c.within_limits.ensures
 
 pub sheet_ok_spec : {M : Type 1} → statement M
 sheet_ok_spec =

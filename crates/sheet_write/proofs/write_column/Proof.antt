@@ -10,33 +10,29 @@ use Rattle.sheet_write.specs.ColumnLaws.{leading_step, column-whole}
 use Rattle.sheet_write.proofs.write_column.Statement.{statement}
 use Rattle.sheet_write.proofs.write_column.Tie as tie
 
-abbrev invariant_loop : tie.invariant_loop
+abbrev invariant_loop : tie.invariant-loop-k
 invariant_loop out₀ p v left₀ k₀ out left k = (k ≤ 9) × (length out ≡ length out₀) × (laid_at out p (leading k left) ≡ laid_at out₀ p (leading k₀ left₀))
 
-abbrev decreases_loop : tie.decreases_loop
+abbrev decreases_loop : tie.decreases-loop-k
 decreases_loop out₀ p v left₀ k₀ out left k = k
 
-loop_holds : tie.Need-loop-init invariant_loop decreases_loop
+loop_holds : tie.Need-loop-k-init invariant_loop decreases_loop
 loop_holds c = (omega arith, refl, refl)
 
-loop_again : tie.Need-loop-preserved invariant_loop decreases_loop
+loop_again : tie.Need-loop-k-preserved invariant_loop decreases_loop
 loop_again c =
-    let at-set-byte2 = c.before.before in
-    let at-digit-of = at-set-byte2.before in
-    let at-loop = at-digit-of.before.before.before in (
+    (
       omega arith,
-      at-set-byte2.set-byte2.auto.0 ∙ at-loop.loop.invariant.1,
-      leading_step _ _ _ _ _ _ (omega arith) (omega arith) at-digit-of.digit-of.ensures.0 at-set-byte2.set-byte2.ensures ∙ at-loop.loop.invariant.2,
+      c.set_byte-in-loop-k.auto.out ∙ c.loop-k.invariant.1,
+      leading_step _ _ _ _ _ _ (omega arith) (omega arith) c.digit_of.ensures.0 c.set_byte-in-loop-k.ensures ∙ c.loop-k.invariant.2,
     )
 
-same_length : tie.Need-same-length invariant_loop decreases_loop
-same_length c = c.before.loop.invariant.1 ∙ c.before.before.before.before.set-byte.auto.0
+same_length : tie.Need-shape_of-out invariant_loop decreases_loop
+same_length c = c.loop-k.invariant.1 ∙ c.set_byte.auto.out
 
 returns : tie.Need-returns invariant_loop decreases_loop
 returns c =
-    let at-set-byte = c.before.before.before.before in
-    let at-start = at-set-byte.before.before.before in
-    column-whole _ _ _ _ _ _ _ (omega arith) at-start.requires at-set-byte.set-byte.ensures c.before.loop.invariant.2
+    column-whole _ _ _ _ _ _ _ (omega arith) c.requires c.set_byte.ensures c.loop-k.invariant.2
 
 pub write_column_spec : {M : Type 1} → statement M
 write_column_spec =

@@ -6,13 +6,8 @@ use Rattle.sheet_write.proofs.write_line.Tie as tie
 
 returns : tie.Need-returns
 returns c =
-    let at-end = c.before.before in
-    let at-fourth = at-end.before.before.before.before in
-    let at-third = at-fourth.before.before.before.before in
-    let at_second = at-third.before.before.before.before in
-    let at_first = at_second.before.before.before.before in
-    line-laid _ _ _ _ _ _ _ _ _ _ _ at_first.before.before.before.requires at_first.write-column.ensures at_second.write-column2.ensures
-    at-third.write-column3.ensures at-fourth.write-column4.ensures at-end.set-byte.ensures
+    line-laid _ _ _ _ _ _ _ _ _ _ _ c.requires c.write_column.ensures c.write_column-2.ensures
+    c.write_column-3.ensures c.write_column-4.ensures c.set_byte.ensures
 
 pub write_line_spec : {M : Type 1} → statement M
 write_line_spec =

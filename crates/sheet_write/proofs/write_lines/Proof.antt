@@ -10,61 +10,59 @@ use Rattle.sheet_write.specs.LineLaws.{room-turn, room-start, lines_start, lines
 use Rattle.sheet_write.proofs.write_lines.Statement.{statement}
 use Rattle.sheet_write.proofs.write_lines.Tie as tie
 
-abbrev invariant_loop : tie.invariant_loop
+abbrev invariant_loop : tie.invariant-loop-i
 invariant_loop out₀ p words form n width at₀ w₀ i₀ out at w i =
     (i ≤ n) × (length out ≡ length out₀) × (at + line_width form.kept form.zeros * (n - i) ≤ length out₀) × (w + form.kept * (n - i) ≤ length words)
     × (laid_at out at (lines form.kept form.zeros (n - i) (drop w words)) ≡ laid_at out₀ p (lines form.kept form.zeros n words))
 
-abbrev decreases_loop : tie.decreases_loop
+abbrev decreases_loop : tie.decreases-loop-i
 decreases_loop out₀ p words form n width at₀ w₀ i₀ out at w i = n - i
 
 -- There is room for the next line and for those after it, in the text and in the words.
-text_room : (c : tie.In-loop invariant_loop decreases_loop)
-    → let l = c.before.loop in
-    let a = c.before.before.before.before.before.args in
+text_room : (c : tie.In-loop-i invariant_loop decreases_loop)
+    → let l = c.loop-i in
+    let a = c.args in
     let width = line_width a.form.kept a.form.zeros in
     l.at + width + width * (a.n - (l.i + 1)) ≤ length a.out.now
-text_room c = room-turn _ (line_width _ _) _ _ _ c.loop-test.true c.before.loop.invariant.2
+text_room c = room-turn _ (line_width _ _) _ _ _ c.loop-i-test.true c.loop-i.invariant.2
 
-words_room : (c : tie.In-loop invariant_loop decreases_loop)
-    → let l = c.before.loop in
-    let a = c.before.before.before.before.before.args in
+words_room : (c : tie.In-loop-i invariant_loop decreases_loop)
+    → let l = c.loop-i in
+    let a = c.args in
     l.w + a.form.kept + a.form.kept * (a.n - (l.i + 1)) ≤ length a.words.now
-words_room c = room-turn _ _ _ _ _ c.loop-test.true c.before.loop.invariant.3
+words_room c = room-turn _ _ _ _ _ c.loop-i-test.true c.loop-i.invariant.3
 
-loop_holds : tie.Need-loop-init invariant_loop decreases_loop
+loop_holds : tie.Need-loop-i-init invariant_loop decreases_loop
 loop_holds c =
-    let start = c.before.before.before in
-    (omega arith, refl, room-start _ (line_width _ _) _ _ start.requires.0, room-start 0 _ _ _ (omega arith), lines_start _ _ _ _ _ _)
+    (omega arith, refl, room-start _ (line_width _ _) _ _ c.requires.0, room-start 0 _ _ _ (omega arith), lines_start _ _ _ _ _ _)
 
-write_record_requires : tie.Need-write-record-requires invariant_loop decreases_loop
+write_record_requires : tie.Need-write_record-requires invariant_loop decreases_loop
 write_record_requires c κs = (omega (arith, text_room c.before), omega arith, omega (arith, words_room c.before))
 
-add_at : tie.Need-overflow-add-at invariant_loop decreases_loop
-add_at c = let in-loop = c.before.before.before.before in omega (arith, text_room in-loop, in-loop.before.before.width.ensures)
+add_at : tie.Need-overflow_add-at invariant_loop decreases_loop
+add_at c = let in-loop = c.before in omega (arith, text_room in-loop.before.before.before, in-loop.width-width.ensures)
 
-add_w : tie.Need-overflow-add-w invariant_loop decreases_loop
+add_w : tie.Need-overflow_add-w invariant_loop decreases_loop
 add_w c = omega (arith, words_room c.before.before.before.before.before)
 
-loop_again : tie.Need-loop-preserved invariant_loop decreases_loop
+loop_again : tie.Need-loop-i-preserved invariant_loop decreases_loop
 loop_again c =
-    let at_call = c.before.before.before in
-    let in-loop = at_call.before.before in
-    let at-loop = in-loop.before in
-    let z = at-loop.before.width.ensures in
-    let i = at-loop.loop.invariant in (
+    let at_call = c in
+    let in-loop = at_call.before in
+    let z = in-loop.width-width.ensures in
+    let i = in-loop.loop-i.invariant in (
       omega arith,
-      at_call.write-record.auto.0 ∙ i.1,
-      omega (arith, text_room in-loop, z),
-      words_room in-loop,
-      lines-turn _ _ _ _ _ _ _ _ _ z in-loop.loop-test.true (omega (arith, words_room in-loop)) (omega (arith, text_room in-loop)) at_call.write-record.ensures ∙ i.4,
+      at_call.write_record.auto.out ∙ i.1,
+      omega (arith, text_room in-loop.before.before.before.before, z),
+      words_room in-loop.before.before.before.before,
+      lines-turn _ _ _ _ _ _ _ _ _ z in-loop.loop-i-test.true (omega (arith, words_room in-loop.before.before.before.before)) (omega (arith, text_room in-loop.before.before.before.before)) at_call.write_record.ensures ∙ i.4,
     )
 
-same_length : tie.Need-same-length invariant_loop decreases_loop
-same_length c = c.before.loop.invariant.1
+same_length : tie.Need-shape_of-out invariant_loop decreases_loop
+same_length c = c.loop-i.invariant.1
 
 returns : tie.Need-returns invariant_loop decreases_loop
-returns c = lines-whole _ _ _ _ _ _ _ _ _ _ (omega arith) c.before.loop.invariant.4
+returns c = lines-whole _ _ _ _ _ _ _ _ _ _ (omega arith) c.loop-i.invariant.4
 
 pub write_lines_spec : {M : Type 1} → statement M
 write_lines_spec =

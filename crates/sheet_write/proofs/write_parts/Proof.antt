@@ -10,81 +10,81 @@ use Rattle.sheet_write.proofs.write_parts.Statement.{statement}
 use Rattle.sheet_write.proofs.write_parts.Tie as tie
 
 -- The counts are within the limits, and all that they count fits.
-limited : (c : tie.After-counts-of) → T (in_limits (as_counts c.counts_of.result))
+limited : (c : tie.After-counts_of-c) → T (in_limits (as_counts c.counts_of-c.result))
 unfolding spec_counts_of
-limited c = let start = c.before.before.before.before.before.before in rule-limits _ start.requires.0 c.counts_of.ensures
+limited c = rule-limits _ c.requires.0 c.counts_of-c.ensures
 
-fits : (c : tie.After-counts-of)
-    → let a = c.before.before.before.before.before.before.args in
-    Fitting (sheet_of a.terms.now a.names.now a.pattern.now a.runs.now) (as_counts c.counts_of.result) a.out.now
+fits : (c : tie.After-counts_of-c)
+    → let a = c.args in
+    Fitting (sheet_of a.terms.now a.names.now a.pattern.now a.runs.now) (as_counts c.counts_of-c.result) a.out.now
 unfolding spec_counts_of
-fits c = let start = c.before.before.before.before.before.before in fitting _ _ start.requires.0 c.counts_of.ensures start.requires.1
+fits c = fitting _ _ c.requires.0 c.counts_of-c.ensures c.requires.1
 
 -- The counts, from each part on.
-abbrev from_line : tie.After-write-line → tie.After-counts-of
+abbrev from_line : tie.After-write_line → tie.After-counts_of-c
 from_line c = c.before.before
 
-abbrev from_terms : tie.After-write-lines → tie.After-counts-of
+abbrev from_terms : tie.After-write_lines → tie.After-counts_of-c
 from_terms c = from_line c.before.before.before.before
 
-abbrev from_names : tie.After-copy-bytes → tie.After-counts-of
+abbrev from_names : tie.After-copy_bytes → tie.After-counts_of-c
 from_names c = from_terms c.before.before.before.before.before
 
-abbrev from_newline : tie.After-set-byte → tie.After-counts-of
+abbrev from_newline : tie.After-set_byte → tie.After-counts_of-c
 from_newline c = from_names c.before.before.before.before.before
 
-abbrev from_pattern : tie.After-write-lines2 → tie.After-counts-of
+abbrev from_pattern : tie.After-write_lines-2 → tie.After-counts_of-c
 from_pattern c = from_newline c.before.before.before.before.before
 
-write_line_requires : tie.Need-write-line-requires
+write_line_requires : tie.Need-write_line-requires
 write_line_requires c κs = omega (arith, fits c.before)
 
-write_lines_requires : tie.Need-write-lines-requires
+write_lines_requires : tie.Need-write_lines-requires
 write_lines_requires c κs = let f = fits (from_line c.before.before.before) in (omega arith, f.terms, omega arith)
 
-names_start_requires : tie.Need-names-start-requires
+names_start_requires : tie.Need-names_start-requires
 names_start_requires c κs = limited (from_terms c.before.before.before)
 
-copy_bytes_requires : tie.Need-copy-bytes-requires
-copy_bytes_requires c κs = let f = fits (from_terms c.before.before.before.before) in omega (arith, c.names-start.ensures)
+copy_bytes_requires : tie.Need-copy_bytes-requires
+copy_bytes_requires c κs = let f = fits (from_terms c.before.before.before.before) in omega (arith, c.names_start.ensures)
 
-names_end_requires : tie.Need-names-end-requires
+names_end_requires : tie.Need-names_end-requires
 names_end_requires c κs = limited (from_names c.before.before.before)
 
-set_byte_requires : tie.Need-set-byte-requires
-set_byte_requires c κs = let f = fits (from_names c.before.before.before.before) in (omega (arith, c.names-end.ensures), omega arith)
+set_byte_requires : tie.Need-set_byte-requires
+set_byte_requires c κs = let f = fits (from_names c.before.before.before.before) in (omega (arith, c.names_end.ensures), omega arith)
 
-pattern_start_requires : tie.Need-pattern-start-requires
+pattern_start_requires : tie.Need-pattern_start-requires
 pattern_start_requires c κs = limited (from_newline c.before.before.before)
 
-write_lines_requires_2 : tie.Need-write-lines-requires-2
+write_lines_requires_2 : tie.Need-write_lines-requires-2
 write_lines_requires_2 c κs =
-    let f = fits (from_newline c.before.before.before.before) in (omega (arith, c.pattern-start.ensures), f.pattern, omega arith)
+    let f = fits (from_newline c.before.before.before.before) in (omega (arith, c.pattern_start.ensures), f.pattern, omega arith)
 
-runs_start_requires : tie.Need-runs-start-requires
+runs_start_requires : tie.Need-runs_start-requires
 runs_start_requires c κs = limited (from_pattern c.before.before.before)
 
-write_lines_requires_3 : tie.Need-write-lines-requires-3
+write_lines_requires_3 : tie.Need-write_lines-requires-3
 write_lines_requires_3 c κs =
-    let f = fits (from_pattern c.before.before.before.before) in (omega (arith, c.runs-start.ensures), f.runs, omega arith)
+    let f = fits (from_pattern c.before.before.before.before) in (omega (arith, c.runs_start.ensures), f.runs, omega arith)
 
 returns : tie.Need-returns
 unfolding spec_counts_of
 returns c =
-    let at-runs = c.before.before in
-    let at-pattern = at-runs.before.before.before.before.before in
-    let at-newline = at-pattern.before.before.before.before.before in
-    let at_Names = at-newline.before.before.before.before.before in
-    let at-terms = at_Names.before.before.before.before.before in
-    let at-line = at-terms.before.before.before.before in
-    let at-counts = at-line.before.before in
-    parts-laid _ _ at-counts.counts_of.ensures (fits at-counts).end record {
-      head = at-line.write-line.ensures;
-      terms = at-terms.write-lines.ensures;
-      names = rw at_Names.before.names-start.ensures at at_Names.copy-bytes.ensures;
-      newline = rw at-newline.before.names-end.ensures at at-newline.set-byte.ensures;
-      pattern = rw at-pattern.before.pattern-start.ensures at at-pattern.write-lines2.ensures;
-      runs = rw at-runs.before.runs-start.ensures at at-runs.write-lines3.ensures;
+    let at-runs = c.before in
+    let at-pattern = at-runs.before in
+    let at-newline = at-pattern.before in
+    let at_Names = at-newline.before in
+    let at-terms = at_Names.before in
+    let at-line = at-terms.before in
+    let at-counts = at-line.before in
+    parts-laid _ _ at-counts.counts_of-c.ensures (fits at-counts.before.before.before.before.before.before.before.before.before.before.before.before.before.before.before.before.before.before.before.before.before).end record {
+      head = at-line.write_line.ensures;
+      terms = at-terms.write_lines.ensures;
+      names = rw at_Names.names_start.ensures at at_Names.copy_bytes.ensures;
+      newline = rw at-newline.names_end.ensures at at-newline.set_byte.ensures;
+      pattern = rw at-pattern.pattern_start.ensures at at-pattern.write_lines-2.ensures;
+      runs = rw at-runs.runs_start.ensures at at-runs.write_lines-3.ensures;
     }
 
 pub write_parts_spec : {M : Type 1} → statement M

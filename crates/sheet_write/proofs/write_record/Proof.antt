@@ -7,12 +7,8 @@ use Rattle.sheet_write.proofs.write_record.Tie as tie
 
 returns : tie.Need-returns
 returns c =
-    let at_byte = c.before.before in
-    let at-zeros = at_byte.before.before.before.before.before in
-    let at_words = at-zeros.before.before.before.before.before.before in
-    let start = at_words.before.before.before.before in
-    record_laid _ _ _ _ _ _ _ _ _ (omega arith) start.requires.2 start.requires.0 at_words.write-words.ensures at-zeros.write-words2.ensures
-    at_byte.before.end.ensures at_byte.set-byte.ensures
+    record_laid _ _ _ _ _ _ _ _ _ (omega arith) c.requires.2 c.requires.0 c.write_words.ensures c.write_words-2.ensures
+    c.end.ensures c.set_byte.ensures
 
 pub write_record_spec : {M : Type 1} → statement M
 write_record_spec =

@@ -18,40 +18,38 @@ abbrev sheet : tie.Start → Sheet
 sheet s = sheet_of s.args.terms.now s.args.names.now s.args.pattern.now s.args.runs.now
 
 -- It can be written, past the first test.
-rule : (e : tie.Else1) → T (sheet_rule (sheet e.before.before.before.before.before.before.before))
-rule e = rule-holds e.before.sheet-ok.ensures e.if1.false
+rule : (e : tie.Else-not-sheet_ok) → T (sheet_rule (sheet e.before.before.before.before.before.before.before))
+rule e = rule-holds e.sheet_ok.ensures e.if-not-sheet_ok.false-raw
 
 -- Its text is as long as was counted.
-size : (c : tie.After-end) → length (sheet_text (sheet c.before.before.before.before.before.before.before.before.before)) ≡ c.end.result
+size : (c : tie.After-end-all) → length (sheet_text (sheet c.before.before.before.before.before.before.before.before.before)) ≡ c.end-all.result
 unfolding spec_counts_of
-size c = let at-counts = c.before in text_length _ (rule at-counts.before) at-counts.counts_of.ensures ∙ sym c.end.ensures
+size c = let at-counts = c.before in text_length _ (rule at-counts.before) at-counts.counts_of.ensures ∙ sym c.end-all.ensures
 
-returns : tie.Need-returns
+returns : tie.Need-returns-then-not-sheet_ok
 unfolding written_of
-returns c = uneven-refused _ _ c.before.sheet-ok.ensures (not-true _ c.if1.true)
+returns c = uneven-refused _ _ c.sheet_ok.ensures (not-true _ c.if-not-sheet_ok.true-raw)
 
-end_requires : tie.Need-end-requires
+end_requires : tie.Need-end-all-requires
 unfolding spec_counts_of
 end_requires c κs = rule-limits _ (rule c.before) c.counts_of.ensures
 
-returns_2 : tie.Need-returns-2
+returns_2 : tie.Need-returns-then-out-all
 unfolding written_of
 returns_2 c =
     let at-end = c.before in
-    let at-if1 = at-end.before.before in
-    short-refused _ _ at-if1.before.sheet-ok.ensures (not-false _ at-if1.if1.false) (size at-end) c.if2.true
+    short-refused _ _ at-end.sheet_ok.ensures (not-false _ at-end.if-not-sheet_ok.false-raw) (size at-end) c.if-out-all.true
 
-write_parts_requires : tie.Need-write-parts-requires
-write_parts_requires c κs = let at-end = c.before.before in (rule at-end.before.before, omega (arith, size at-end))
+write_parts_requires : tie.Need-write_parts-requires
+write_parts_requires c κs = let at-end = c.before in (rule at-end.before.before.before, omega (arith, size at-end.before))
 
-returns_3 : tie.Need-returns-3
+returns_3 : tie.Need-returns
 unfolding written_of
 returns_3 c =
-    let at-parts = c.before.before in
-    let at-if2 = at-parts.before.before in
+    let at-parts = c.before in
+    let at-if2 = at-parts.before in
     let at-end = at-if2.before in
-    let at-if1 = at-end.before.before in
-    sheet-written _ _ at-if1.before.sheet-ok.ensures (not-false _ at-if1.if1.false) (size at-end) at-if2.if2.false at-parts.write-parts.ensures
+    sheet-written _ _ at-end.sheet_ok.ensures (not-false _ at-end.if-not-sheet_ok.false-raw) (size at-end.before.before) at-if2.if-out-all.false at-parts.write_parts.ensures
 
 pub write_sheet_spec : {M : Type 1} → statement M
 write_sheet_spec =

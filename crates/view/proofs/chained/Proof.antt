@@ -9,42 +9,30 @@ use Rattle.view.specs.ChainedLaws.{chained_none, chained_full, chained_done}
 use Rattle.view.proofs.chained.Statement.{statement}
 use Rattle.view.proofs.chained.Tie as tie
 
-returns : tie.Need-returns
+returns : tie.Need-returns-then-len-eq0
 unfolding answer_of
-returns c = let start = c.before.before.before in chained_none _ _ _ start.requires.0.store c.if1.true start.requires.1
+returns c = chained_none _ _ _ c.requires.0.store c.if-len-eq0.true c.requires.1
 
-returns_2 : tie.Need-returns-2
+returns_2 : tie.Need-returns-then-not-node_room
 unfolding answer_of
 returns_2 c =
-    let at_room = c.before in
-    let counted = at_room.before.before in
-    chained_full _ _ _ counted.from-runs-makes.ensures (sym at_room.node-room.ensures ∙ not-true _ c.if2.true)
+    chained_full _ _ _ c.from_runs_makes-made.ensures (sym c.node_room.ensures ∙ not-true _ c.if-not-node_room.true-raw)
 
-from_runs_build_requires : tie.Need-from-runs-build-requires
+from_runs_build_requires : tie.Need-from_runs_build-node-requires
 from_runs_build_requires c κs =
-    let has_room = c.before in
-    let at_room = has_room.before in
-    let counted = at_room.before.before in
-    let start = counted.before.before.before.before.before in
-    let fits = room_fits _ _ _ (sym at_room.node-room.ensures ∙ not-false _ has_room.if2.false) in
-    record { over = start.requires.0; few = rw (← counted.from-runs-makes.ensures) fits.0; room = rw (← counted.from-runs-makes.ensures) fits.1 }
+    let fits = room_fits _ _ _ (sym c.node_room.ensures ∙ not-false _ c.if-not-node_room.false-raw) in
+    record { over = c.requires.0; few = rw (← c.from_runs_makes-made.ensures) fits.0; room = rw (← c.from_runs_makes-made.ensures) fits.1 }
 
-add-count : tie.Need-overflow-add-count
+add-count : tie.Need-overflow_add-count
 add-count c =
-    let has_room = c.before.before.before.before in
-    let fits = room_fits _ _ _ (sym has_room.before.node-room.ensures ∙ not-false _ has_room.if2.false) in
+    let fits = room_fits _ _ _ (sym c.node_room.ensures ∙ not-false _ c.if-not-node_room.false-raw) in
     omega (arith, fits.0)
 
-returns_3 : tie.Need-returns-3
+returns_3 : tie.Need-returns
 unfolding answer_of
 returns_3 c =
-    let built = c.before.before.before in
-    let has_room = built.before.before in
-    let at_room = has_room.before in
-    let counted = at_room.before.before in
-    let start = counted.before.before.before.before.before in
-    chained_done _ _ _ counted.from-runs-makes.ensures (sym at_room.node-room.ensures ∙ not-false _ has_room.if2.false) c.new.ensures
-    built.from-runs-build.ensures.0 start.requires.1 built.from-runs-build.ensures.1
+    chained_done _ _ _ c.from_runs_makes-made.ensures (sym c.node_room.ensures ∙ not-false _ c.if-not-node_room.false-raw) c.new.ensures
+    c.from_runs_build-node.ensures.0 c.requires.1 c.from_runs_build-node.ensures.1
 
 pub chained_spec : {M : Type 1} → statement M
 chained_spec =

@@ -8,91 +8,55 @@ use Rattle.view.specs.CheckLaws.{number_odd, number-nodes, number-terms, number-
 use Rattle.view.proofs.check.Statement.{statement}
 use Rattle.view.proofs.check.Tie as tie
 
-returns : tie.Need-returns
-returns c = number_odd _ _ _ (not-true _ c.if1.true)
+returns : tie.Need-returns-then-not-even
+returns c = number_odd _ _ _ (not-true _ c.if-not-even.true-raw)
 
-returns_2 : tie.Need-returns-2
-returns_2 c = number-nodes _ _ _ _ (sym c.before.nodes-even.ensures ∙ not-true _ c.if2.true)
+returns_2 : tie.Need-returns-then-not-nodes_even
+returns_2 c = number-nodes _ _ _ _ (sym c.nodes_even.ensures ∙ not-true _ c.if-not-nodes_even.true-raw)
 
-returns_3 : tie.Need-returns-3
+returns_3 : tie.Need-returns-then-number-ne0
 returns_3 c =
-    let terms-checked = c.before in
-    let even = terms-checked.before in
-    let at-even = even.before in
-    number-terms _ _ _ (not-false _ at-even.before.if1.false) (sym at-even.nodes-even.ensures ∙ not-false _ even.if2.false) terms-checked.check-terms.ensures
-    c.if3.true
+    number-terms _ _ _ (not-false _ c.if-not-even.false-raw) (sym c.nodes_even.ensures ∙ not-false _ c.if-not-nodes_even.false-raw) c.check_terms-number.ensures
+    c.if-number-ne0.true
 
-nodes_ok_requires : tie.Need-nodes-ok-requires
+nodes_ok_requires : tie.Need-nodes_ok-requires
 nodes_ok_requires c κs =
-    let even = c.before.before in
-    even_fits _ _ (sym even.before.nodes-even.ensures ∙ not-false _ even.if2.false)
+    even_fits _ _ (sym c.nodes_even.ensures ∙ not-false _ c.if-not-nodes_even.false-raw)
 
-returns_4 : tie.Need-returns-4
+returns_4 : tie.Need-returns-then-not-nodes_ok
 unfolding store_nodes nodes
 returns_4 c =
-    let nodes-checked = c.before in
-    let good-terms = nodes-checked.before in
-    let terms-checked = good-terms.before in
-    let even = terms-checked.before in
-    let at-even = even.before in
-    number-bad-node _ _ _ (not-false _ at-even.before.if1.false) (sym at-even.nodes-even.ensures ∙ not-false _ even.if2.false) terms-checked.check-terms.ensures
-    good-terms.if3.false (sym nodes-checked.nodes-ok.ensures ∙ not-true _ c.if4.true)
+    number-bad-node _ _ _ (not-false _ c.if-not-even.false-raw) (sym c.nodes_even.ensures ∙ not-false _ c.if-not-nodes_even.false-raw) c.check_terms-number.ensures
+    c.if-number-ne0.false (sym c.nodes_ok.ensures ∙ not-true _ c.if-not-nodes_ok.true-raw)
 
-field_ok_requires : tie.Need-field-ok-requires
+field_ok_requires : tie.Need-field_ok-requires
 field_ok_requires c κs =
-    let even = c.before.before.before.before in
-    even_fits _ _ (sym even.before.nodes-even.ensures ∙ not-false _ even.if2.false)
+    even_fits _ _ (sym c.nodes_even.ensures ∙ not-false _ c.if-not-nodes_even.false-raw)
 
-returns_5 : tie.Need-returns-5
+returns_5 : tie.Need-returns-then-not-field_ok
 unfolding store_nodes nodes unless
 returns_5 c =
-    let left-checked = c.before in
-    let good-nodes = left-checked.before in
-    let nodes-checked = good-nodes.before in
-    let good-terms = nodes-checked.before in
-    let terms-checked = good-terms.before in
-    let even = terms-checked.before in
-    let at-even = even.before in
-    number_fields _ _ _ (not-false _ at-even.before.if1.false) (sym at-even.nodes-even.ensures ∙ not-false _ even.if2.false) terms-checked.check-terms.ensures
-    good-terms.if3.false (sym nodes-checked.nodes-ok.ensures ∙ not-false _ good-nodes.if4.false) _ _
-    (sym left-checked.field-ok.ensures ∙ not-true _ c.if5.true) refl
+    number_fields _ _ _ (not-false _ c.if-not-even.false-raw) (sym c.nodes_even.ensures ∙ not-false _ c.if-not-nodes_even.false-raw) c.check_terms-number.ensures
+    c.if-number-ne0.false (sym c.nodes_ok.ensures ∙ not-false _ c.if-not-nodes_ok.false-raw) _ _
+    (sym c.field_ok.ensures ∙ not-true _ c.if-not-field_ok.true-raw) refl
 
-field_ok_requires_2 : tie.Need-field-ok-requires-2
+field_ok_requires_2 : tie.Need-field_ok-requires-2
 field_ok_requires_2 c κs =
-    let even = c.before.before.before.before.before.before in
-    even_fits _ _ (sym even.before.nodes-even.ensures ∙ not-false _ even.if2.false)
+    even_fits _ _ (sym c.nodes_even.ensures ∙ not-false _ c.if-not-nodes_even.false-raw)
 
-returns_6 : tie.Need-returns-6
+returns_6 : tie.Need-returns-then-not-field_ok-2
 unfolding store_nodes nodes unless
 returns_6 c =
-    let right-checked = c.before in
-    let good_left = right-checked.before in
-    let left-checked = good_left.before in
-    let good-nodes = left-checked.before in
-    let nodes-checked = good-nodes.before in
-    let good-terms = nodes-checked.before in
-    let terms-checked = good-terms.before in
-    let even = terms-checked.before in
-    let at-even = even.before in
-    number_fields _ _ _ (not-false _ at-even.before.if1.false) (sym at-even.nodes-even.ensures ∙ not-false _ even.if2.false) terms-checked.check-terms.ensures
-    good-terms.if3.false (sym nodes-checked.nodes-ok.ensures ∙ not-false _ good-nodes.if4.false) _ _
-    (sym left-checked.field-ok.ensures ∙ not-false _ good_left.if5.false) (sym right-checked.field-ok2.ensures ∙ not-true _ c.if6.true)
+    number_fields _ _ _ (not-false _ c.if-not-even.false-raw) (sym c.nodes_even.ensures ∙ not-false _ c.if-not-nodes_even.false-raw) c.check_terms-number.ensures
+    c.if-number-ne0.false (sym c.nodes_ok.ensures ∙ not-false _ c.if-not-nodes_ok.false-raw) _ _
+    (sym c.field_ok.ensures ∙ not-false _ c.if-not-field_ok.false-raw) (sym c.field_ok-2.ensures ∙ not-true _ c.if-not-field_ok-2.true-raw)
 
-returns_7 : tie.Need-returns-7
+returns_7 : tie.Need-returns
 unfolding store_nodes nodes unless
 returns_7 c =
-    let right-checked = c.before in
-    let good_left = right-checked.before in
-    let left-checked = good_left.before in
-    let good-nodes = left-checked.before in
-    let nodes-checked = good-nodes.before in
-    let good-terms = nodes-checked.before in
-    let terms-checked = good-terms.before in
-    let even = terms-checked.before in
-    let at-even = even.before in
-    number_fields _ _ _ (not-false _ at-even.before.if1.false) (sym at-even.nodes-even.ensures ∙ not-false _ even.if2.false) terms-checked.check-terms.ensures
-    good-terms.if3.false (sym nodes-checked.nodes-ok.ensures ∙ not-false _ good-nodes.if4.false) _ _
-    (sym left-checked.field-ok.ensures ∙ not-false _ good_left.if5.false) (sym right-checked.field-ok2.ensures ∙ not-false _ c.if6.false)
+    number_fields _ _ _ (not-false _ c.if-not-even.false-raw) (sym c.nodes_even.ensures ∙ not-false _ c.if-not-nodes_even.false-raw) c.check_terms-number.ensures
+    c.if-number-ne0.false (sym c.nodes_ok.ensures ∙ not-false _ c.if-not-nodes_ok.false-raw) _ _
+    (sym c.field_ok.ensures ∙ not-false _ c.if-not-field_ok.false-raw) (sym c.field_ok-2.ensures ∙ not-false _ c.if-not-field_ok-2.false-raw)
 
 pub check_spec : {M : Type 1} → statement M
 check_spec =

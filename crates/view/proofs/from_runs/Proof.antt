@@ -8,65 +8,45 @@ use Rattle.view.specs.StepLaws.{runs-refused, runs_past, runs_long, runs_fit, ru
 use Rattle.view.proofs.from_runs.Statement.{statement}
 use Rattle.view.proofs.from_runs.Tie as tie
 
-returns : tie.Need-returns
+returns : tie.Need-returns-then-number-ne0
 unfolding answer_of
-returns c = let checked = c.before in runs-refused _ _ checked.before.runs_even.ensures checked.check.ensures c.if1.true
+returns c = runs-refused _ _ c.runs_even.ensures c.check-number.ensures c.if-number-ne0.true
 
-returns_2 : tie.Need-returns-2
+returns_2 : tie.Need-returns-then-not-runs_inside
 unfolding answer_of
 returns_2 c =
-    let at-inside = c.before in
-    let passed = at-inside.before in
-    let checked = passed.before in
-    runs_past _ _ checked.before.runs_even.ensures checked.check.ensures passed.if1.false (sym at-inside.runs-inside.ensures ∙ not-true _ c.if2.true)
+    runs_past _ _ c.runs_even.ensures c.check-number.ensures c.if-number-ne0.false (sym c.runs_inside.ensures ∙ not-true _ c.if-not-runs_inside.true-raw)
 
-runs_total_requires : tie.Need-runs-total-requires
+runs_total_requires : tie.Need-runs_total-len-requires
 runs_total_requires c κs =
-    let at-inside = c.before in
-    let passed = at-inside.before in
-    let checked = passed.before in
-    let even = checked.before.runs_even.ensures in
-    let p = runs-passed _ _ even checked.check.ensures passed.if1.false in (
-      record { terms = _; few_terms = p.terms; rule = true-T _ (sym at-inside.runs-inside.ensures ∙ not-false _ c.if2.false) },
-      runs_few _ _ even checked.check.ensures passed.if1.false,
+    let even = c.runs_even.ensures in
+    let p = runs-passed _ _ even c.check-number.ensures c.if-number-ne0.false in (
+      record { terms = _; few_terms = p.terms; rule = true-T _ (sym c.runs_inside.ensures ∙ not-false _ c.if-not-runs_inside.false-raw) },
+      runs_few _ _ even c.check-number.ensures c.if-number-ne0.false,
     )
 
-returns_3 : tie.Need-returns-3
+returns_3 : tie.Need-returns-then-len-gt-LIMIT
 unfolding answer_of
 returns_3 c =
-    let at-total = c.before in
-    let inside = at-total.before in
-    let at-inside = inside.before in
-    let passed = at-inside.before in
-    let checked = passed.before in
-    runs_long _ _ checked.before.runs_even.ensures checked.check.ensures passed.if1.false
-    (sym at-inside.runs-inside.ensures ∙ not-false _ inside.if2.false) at-total.runs-total.ensures c.if3.true
+    runs_long _ _ c.runs_even.ensures c.check-number.ensures c.if-number-ne0.false
+    (sym c.runs_inside.ensures ∙ not-false _ c.if-not-runs_inside.false-raw) c.runs_total-len.ensures c.if-len-gt-LIMIT.true
 
 chained_requires : tie.Need-chained-requires
 chained_requires c κs =
-    let at-total = c.before.before.before in
+    let at-total = c.before in
     let inside = at-total.before in
-    let at-inside = inside.before in
-    let passed = at-inside.before in
-    let checked = passed.before in
-    let p = runs-passed _ _ checked.before.runs_even.ensures checked.check.ensures passed.if1.false in (
+    let p = runs-passed _ _ inside.runs_even.ensures inside.check-number.ensures inside.if-number-ne0.false in (
       record {
-        inside = record { terms = _; few_terms = p.terms; rule = true-T _ (sym at-inside.runs-inside.ensures ∙ not-false _ inside.if2.false) };
+        inside = record { terms = _; few_terms = p.terms; rule = true-T _ (sym inside.runs_inside.ensures ∙ not-false _ inside.if-not-runs_inside.false-raw) };
         store = p.store;
       },
-      at-total.runs-total.ensures,
+      at-total.runs_total-len.ensures,
     )
 
-returns_4 : tie.Need-returns-4
+returns_4 : tie.Need-returns
 returns_4 c =
-    let done = c.before.before in
-    let at-total = done.before.before.before.before in
-    let inside = at-total.before in
-    let at-inside = inside.before in
-    let passed = at-inside.before in
-    let checked = passed.before in
-    runs_fit _ _ checked.before.runs_even.ensures checked.check.ensures passed.if1.false
-    (sym at-inside.runs-inside.ensures ∙ not-false _ inside.if2.false) at-total.runs-total.ensures (search rules) done.chained.ensures
+    runs_fit _ _ c.runs_even.ensures c.check-number.ensures c.if-number-ne0.false
+    (sym c.runs_inside.ensures ∙ not-false _ c.if-not-runs_inside.false-raw) c.runs_total-len.ensures (search rules) c.chained.ensures
 
 pub from_runs_spec : {M : Type 1} → statement M
 from_runs_spec =

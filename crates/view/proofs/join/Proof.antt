@@ -5,29 +5,26 @@ use Rattle.view.specs.StepLaws.{usable_both, any-nodes, reaches, join-refused, j
 use Rattle.view.proofs.join.Statement.{statement}
 use Rattle.view.proofs.join.Tie as tie
 
-returns : tie.Need-returns
+returns : tie.Need-returns-then-number-ne0
 unfolding answer_of
-returns c = join-refused _ _ _ c.before.check.ensures c.if1.true
+returns c = join-refused _ _ _ c.check-number.ensures c.if-number-ne0.true
 
-returns_2 : tie.Need-returns-2
+returns_2 : tie.Need-returns-then-f-gt-LIMIT
 unfolding answer_of
-returns_2 c = let passed = c.before.before in join_long _ _ _ passed.before.check.ensures passed.if1.false (search rules)
+returns_2 c = join_long _ _ _ c.check-number.ensures c.if-number-ne0.false (search rules)
 
-returns_3 : tie.Need-returns-3
+returns_3 : tie.Need-returns-then-f-g
 unfolding answer_of
-returns_3 c = let passed = c.before.before.before.before.before in join_long _ _ _ passed.before.check.ensures passed.if1.false (search rules)
+returns_3 c = join_long _ _ _ c.check-number.ensures c.if-number-ne0.false (search rules)
 
 joined_requires : tie.Need-joined-requires
 joined_requires c κs =
-    let passed = c.before.before.before.before.before.before.before in
-    let (u, v) = usable_both _ _ _ passed.before.check.ensures passed.if1.false in
+    let (u, v) = usable_both _ _ _ c.check-number.ensures c.if-number-ne0.false in
     (any-nodes u, (reaches u, (reaches v, search rules)))
 
-returns_4 : tie.Need-returns-4
+returns_4 : tie.Need-returns
 returns_4 c =
-    let done = c.before.before in
-    let passed = done.before.before.before.before.before.before.before.before in
-    join-fits _ _ _ passed.before.check.ensures passed.if1.false (search rules) done.joined.ensures
+    join-fits _ _ _ c.check-number.ensures c.if-number-ne0.false (search rules) c.joined.ensures
 
 pub join_spec : {M : Type 1} → statement M
 join_spec =

@@ -4,10 +4,10 @@ use Rattle.view.specs.GrowLaws.{room-limit, room_slice}
 use Rattle.view.proofs.node_room.Statement.{statement}
 use Rattle.view.proofs.node_room.Tie as tie
 
-returns : tie.Need-returns
+returns : tie.Need-returns-then-used-made
 returns c = room-limit _ _ _ (search rules) (search rules)
 
-returns_2 : tie.Need-returns-2
+returns_2 : tie.Need-returns
 returns_2 c = room_slice _ _ _ (search rules) (search rules) (search rules)
 
 pub node_room_spec : {M : Type 1} → statement M

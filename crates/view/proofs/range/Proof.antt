@@ -7,41 +7,34 @@ use Rattle.view.specs.StepLaws.{usable, any-nodes, reaches, range-refused, range
 use Rattle.view.proofs.range.Statement.{statement}
 use Rattle.view.proofs.range.Tie as tie
 
-returns : tie.Need-returns
+returns : tie.Need-returns-then-number-ne0
 unfolding answer_of
-returns c = range-refused _ _ _ _ c.before.check.ensures c.if1.true
+returns c = range-refused _ _ _ _ c.check-number.ensures c.if-number-ne0.true
 
-returns_2 : tie.Need-returns-2
+returns_2 : tie.Need-returns-then-f-k
 unfolding answer_of
-returns_2 c = let passed = c.before.before in range_past _ _ _ _ passed.before.check.ensures passed.if1.false (search rules)
+returns_2 c = range_past _ _ _ _ c.check-number.ensures c.if-number-ne0.false (search rules)
 
-returns_3 : tie.Need-returns-3
+returns_3 : tie.Need-returns-then-f-k-2
 unfolding answer_of
-returns_3 c = let passed = c.before.before.before.before in range_past _ _ _ _ passed.before.check.ensures passed.if1.false (search rules)
+returns_3 c = range_past _ _ _ _ c.check-number.ensures c.if-number-ne0.false (search rules)
 
 dropped_requires : tie.Need-dropped-requires
 dropped_requires c κs =
-    let passed = c.before.before.before.before.before.before in
-    let u = usable _ _ _ passed.before.check.ensures passed.if1.false in
+    let u = usable _ _ _ c.check-number.ensures c.if-number-ne0.false in
     (any-nodes u, (reaches u, search rules))
 
-returns_4 : tie.Need-returns-4
+returns_4 : tie.Need-returns-in-Built
 unfolding answer_of
 returns_4 c =
-    let found = c.before.before in
-    let done = found.before.before.before.before in
-    let passed = done.before.before.before.before.before.before.before in
-    let built = range_built _ _ _ _ _ _ done.dropped.ensures (ap answer_of found.g.given.1) (search rules) c.clamped.ensures in
-    range-fits _ _ _ _ passed.before.check.ensures passed.if1.false (search rules) built
+    let built = range_built _ _ _ _ _ _ c.dropped.ensures (ap answer_of c.in-Built.is) (search rules) c.clamped.ensures in
+    range-fits _ _ _ _ c.check-number.ensures c.if-number-ne0.false (search rules) built
 
-returns_5 : tie.Need-returns-5
+returns_5 : tie.Need-returns-in-Refused
 unfolding answer_of
 returns_5 c =
-    let found = c.before in
-    let done = found.before.before.before.before in
-    let passed = done.before.before.before.before.before.before.before in
-    let full = range-full _ _ _ _ _ _ done.dropped.ensures (ap answer_of found.m.given.1) in
-    range-fits _ _ _ _ passed.before.check.ensures passed.if1.false (search rules) full
+    let full = range-full _ _ _ _ _ _ c.dropped.ensures (ap answer_of c.in-Refused.is) in
+    range-fits _ _ _ _ c.check-number.ensures c.if-number-ne0.false (search rules) full
 
 pub range_spec : {M : Type 1} → statement M
 range_spec =

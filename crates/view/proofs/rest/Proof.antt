@@ -5,25 +5,22 @@ use Rattle.view.specs.StepLaws.{usable, any-nodes, reaches, rest-refused, rest_p
 use Rattle.view.proofs.rest.Statement.{statement}
 use Rattle.view.proofs.rest.Tie as tie
 
-returns : tie.Need-returns
+returns : tie.Need-returns-then-number-ne0
 unfolding answer_of
-returns c = rest-refused _ _ _ c.before.check.ensures c.if1.true
+returns c = rest-refused _ _ _ c.check-number.ensures c.if-number-ne0.true
 
-returns_2 : tie.Need-returns-2
+returns_2 : tie.Need-returns-then-f-k
 unfolding answer_of
-returns_2 c = let passed = c.before.before in rest_past _ _ _ passed.before.check.ensures passed.if1.false c.if2.true
+returns_2 c = rest_past _ _ _ c.check-number.ensures c.if-number-ne0.false c.if-f-k.true
 
 dropped_requires : tie.Need-dropped-requires
 dropped_requires c κs =
-    let passed = c.before.before.before.before in
-    let u = usable _ _ _ passed.before.check.ensures passed.if1.false in
+    let u = usable _ _ _ c.check-number.ensures c.if-number-ne0.false in
     (any-nodes u, (reaches u, search rules))
 
-returns_3 : tie.Need-returns-3
+returns_3 : tie.Need-returns
 returns_3 c =
-    let done = c.before.before in
-    let passed = done.before.before.before.before.before in
-    rest-fits _ _ _ passed.before.check.ensures passed.if1.false (search rules) done.dropped.ensures
+    rest-fits _ _ _ c.check-number.ensures c.if-number-ne0.false (search rules) c.dropped.ensures
 
 pub rest_spec : {M : Type 1} → statement M
 rest_spec =

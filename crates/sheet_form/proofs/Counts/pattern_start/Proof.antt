@@ -5,8 +5,8 @@ use Rattle.sheet_spec.specs.SheetLaws.{limits_facts}
 use Rattle.sheet_form.proofs.Counts.pattern_start.Statement.{statement}
 use Rattle.sheet_form.proofs.Counts.pattern_start.Tie as tie
 
-add_result : tie.Need-overflow-add-result
-add_result c = omega (arith, limits_facts _ _ _ _ c.before.requires)
+add_result : tie.Need-overflow_add-result
+add_result c = omega (arith, limits_facts _ _ _ _ c.requires)
 
 pub pattern_start_spec : {M : Type 1} → statement M
 pattern_start_spec = tie.close (tie.spec (λ c κs. search rules) add_result (λ c. search rules))

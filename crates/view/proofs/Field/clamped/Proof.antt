@@ -8,7 +8,7 @@ use Rattle.view.proofs.Field.clamped.Tie as tie
 
 returns : tie.Need-returns
 unfolding take_field
-returns c = let at-smaller = c.before in c.new.ensures ∙ ap (take_field (as_field at-smaller.before.args.self)) at-smaller.smaller.ensures
+returns c = c.new.ensures ∙ ap (take_field (as_field c.args.self)) c.smaller.ensures
 
 pub clamped_spec : {M : Type 1} → statement M
 clamped_spec = tie.close (tie.spec (λ c κs. search rules) (λ c κs. search rules) returns)
