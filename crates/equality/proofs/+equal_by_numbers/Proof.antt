@@ -25,17 +25,16 @@ below t = and 2 kinds.ps (falls 2 kinds.ps ◌<◌ μ t) self.Pre
 abbrev R : ℕ → lts.Claims
 R t = (number-terms-reads.Asked, number-terms-reads.Learnt, below t, self.Post, equal-numbered-reads.Asked, equal-numbered-reads.Learnt)
 
-equal_by_numbers_requires : (t : ℕ) → lts.Need-equal-by-numbers-requires (R t) (at t) self.Post
-equal_by_numbers_requires t c κs = absurd (omega (arith, c.before.before.before.before.before.before.requires.1.few, c.if1.true))
+equal_by_numbers_requires : (t : ℕ) → lts.Need-equal_by_numbers-requires (R t) (at t) self.Post
+equal_by_numbers_requires t c κs = absurd (omega (arith, c.requires.1.few, c.if-used-gt-LIMIT.true))
 
-returns_2 : (t : ℕ) → lts.Need-returns-2 (R t) (at t) self.Post
+returns_2 : (t : ℕ) → lts.Need-returns (R t) (at t) self.Post
 returns_2 t c =
-    let at-numbers = c.before.before.before.before in
-    let lies = at-numbers.before.before.before.before.requires.1 in
-    c.equal-numbered.ensures _ _ _ _ at-numbers.number-terms.ensures.0 lies.first lies.second (omega arith)
+    let lies = c.requires.1 in
+    c.equal_numbered.ensures _ _ _ _ c.number_terms.ensures.0 lies.first lies.second (omega arith)
 
-pub +equal-by-numbers-spec : {M : Type 1} → statement M
-+equal-by-numbers-spec = close μ λ t. lts.spec (R t)
+pub +equal_by_numbers_spec : {M : Type 1} → statement M
++equal_by_numbers_spec = close μ λ t. lts.spec (R t)
     (at t)
     self.Post
     (λ c. search rules)

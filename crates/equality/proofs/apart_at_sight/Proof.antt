@@ -11,24 +11,24 @@ use Rattle.equality.proofs.apart_at_sight.Statement.{statement}
 use Rattle.equality.proofs.apart_at_sight.Tie as tie
 
 -- the two terms, once they are read
-two : (c : tie.After-get-term2) {names : List ℕ} {used : ℕ} →
-    let given = c.before.before.before.args in
+two : (c : tie.After-get_term-u) {names : List ℕ} {used : ℕ} →
+    let given = c.args in
     TermsIn names given.terms.now given.i given.j used
-    → Two names given.terms.now given.i given.j (as_term c.before.get-term.result) (as_term c.get-term2.result) used
-two c lies = record { inside = lies; left = c.before.get-term.ensures; right = c.get-term2.ensures }
+    → Two names given.terms.now given.i given.j (as_term c.get_term-t.result) (as_term c.get_term-u.result) used
+two c lies = record { inside = lies; left = c.get_term-t.ensures; right = c.get_term-u.ensures }
 
-returns : tie.Need-returns
-returns c names used lies told = sym (two_differ (two c.before.before.before lies) c.if1.true)
+returns : tie.Need-returns-then-t-u
+returns c names used lies told = sym (two_differ (two c.before.before.before lies) c.if-t-u.true)
 
 -- it does not say so
-returns_2 : tie.Need-returns-2
+returns_2 : tie.Need-returns-then-t-ne-CHAR
 returns_2 c names used lies told = cc
 
-returns_3 : tie.Need-returns-3
+returns_3 : tie.Need-returns
 returns_3 c names used lies told =
-    let at-if2 = c.before.before in
-    let at-if1 = at-if2.before.before in
-    two_chars_apart (two at-if1.before.before.before lies) at-if2.if2.false at-if1.if1.false (eqb-false _ _ (not-true _ told))
+    let at-if2 = c.before in
+    let at-if1 = at-if2.before in
+    two_chars_apart (two at-if1.before.before.before.before.before lies) at-if2.if-t-ne-CHAR.false at-if1.if-t-u.false (eqb-false _ _ (not-true _ told))
 
 pub apart_at_sight_spec : {M : Type 1} → statement M
 apart_at_sight_spec =

@@ -5,15 +5,13 @@ use Rattle.equality.specs.WithinLaws.{tells_different, tells-equal}
 use Rattle.equality.proofs.equal_alone.Statement.{statement}
 use Rattle.equality.proofs.equal_alone.Tie as tie
 
-returns : tie.Need-returns
+returns : tie.Need-returns-in-Different
 returns c =
-    let at_call = c.before.before in
-    sym (tells_different (at_call.equal-runs-within.ensures _ at_call.before.before.before.requires) c.enum_told.given.1).0
+    sym (tells_different (c.equal_runs_within.ensures _ c.requires) c.in-Different.is).0
 
-returns_2 : tie.Need-returns-2
+returns_2 : tie.Need-returns-in-Equal
 returns_2 c =
-    let at_call = c.before.before in
-    sym (tells-equal (at_call.equal-runs-within.ensures _ at_call.before.before.before.requires) c.enum-told2.given.1).0
+    sym (tells-equal (c.equal_runs_within.ensures _ c.requires) c.in-Equal.is).0
 
 pub equal_alone_spec : {M : Type 1} → statement M
 equal_alone_spec =

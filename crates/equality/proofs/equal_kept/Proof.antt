@@ -9,46 +9,33 @@ use Rattle.equality.specs.MemoryLaws.{memory_counted}
 use Rattle.equality.proofs.equal_kept.Statement.{statement}
 use Rattle.equality.proofs.equal_kept.Tie as tie
 
-returns_2 : tie.Need-returns-2
+returns_2 : tie.Need-returns-then-spent-gt-BUDGET
 returns_2 c =
-    let at_wide = c.before.before.before in
-    let at-known = at_wide.before in
-    let at-start = at-known.before.before.before.before.before in
-    let runs = at-start.requires.0 in
-    let memory = at-start.requires.1 in
-    let said : at_wide.wide.result ≡ numbered = omega (arith, c.before.before.if2.true, at_wide.wide.ensures, at-known.slice-known2.given at-start.args.used) in
-    (c.equal-numbered.ensures _ _ _ _ (memory.told (sym at_wide.wide.ensures ∙ said)) runs.first runs.second (omega arith), memory)
+    let runs = c.requires.0 in
+    let memory = c.requires.1 in
+    let said : c.wide-spent.result ≡ numbered = omega (arith, c.if-spent-gt-BUDGET.true, c.wide-spent.ensures, c.slice_known-2-1.given c.args.used) in
+    (c.equal_numbered.ensures _ _ _ _ (memory.told (sym c.wide-spent.ensures ∙ said)) runs.first runs.second (omega arith), memory)
 
 -- what is left where they are told apart, and where they are told equal
-sub_known : tie.Need-overflow-sub-known
+sub_known : tie.Need-overflow_sub-known
 sub_known c =
-    let at_call = c.before.before.before in
-    let at-start = at_call.before.before.before.before.before.before.before.before in
-    let rest = tells_different (at_call.equal-runs-within.ensures _ at-start.requires.0) c.before.rest.given.1 in
+    let rest = tells_different (c.equal_runs_within.ensures _ c.requires.0) c.in-Different.is in
     omega arith
 
-sub_known_2 : tie.Need-overflow-sub-known-2
+sub_known_2 : tie.Need-overflow_sub-known-in-Equal
 sub_known_2 c =
-    let at_call = c.before.before.before in
-    let at-start = at_call.before.before.before.before.before.before.before.before in
-    let rest = tells-equal (at_call.equal-runs-within.ensures _ at-start.requires.0) c.before.rest2.given.1 in
+    let rest = tells-equal (c.equal_runs_within.ensures _ c.requires.0) c.in-Equal.is in
     omega arith
 
-returns_3 : tie.Need-returns-3
+returns_3 : tie.Need-returns-in-Different
 returns_3 c =
-    let at_call = c.before.before.before in
-    let at-if1 = at_call.before.before.before.before in
-    let at-start = at-if1.before.before.before.before in
-    let rest = tells_different (at_call.equal-runs-within.ensures _ at-start.requires.0) c.before.rest.given.1 in
-    (sym rest.0, memory_counted at-start.args.known.now (omega (arith, at-if1.if1.false)) (omega arith))
+    let rest = tells_different (c.equal_runs_within.ensures _ c.requires.0) c.in-Different.is in
+    (sym rest.0, memory_counted c.args.known.now (omega (arith, c.if-known-used.false)) (omega arith))
 
-returns_4 : tie.Need-returns-4
+returns_4 : tie.Need-returns-in-Equal
 returns_4 c =
-    let at_call = c.before.before.before in
-    let at-if1 = at_call.before.before.before.before in
-    let at-start = at-if1.before.before.before.before in
-    let rest = tells-equal (at_call.equal-runs-within.ensures _ at-start.requires.0) c.before.rest2.given.1 in
-    (sym rest.0, memory_counted at-start.args.known.now (omega (arith, at-if1.if1.false)) (omega arith))
+    let rest = tells-equal (c.equal_runs_within.ensures _ c.requires.0) c.in-Equal.is in
+    (sym rest.0, memory_counted c.args.known.now (omega (arith, c.if-known-used.false)) (omega arith))
 
 pub equal_kept_spec : {M : Type 1} → statement M
 equal_kept_spec =

@@ -12,43 +12,34 @@ use Rattle.pattern.specs.BindingLaws.{inside-all, inside_not, inside_next}
 use Rattle.pattern.proofs.bindings_inside.Statement.{statement}
 use Rattle.pattern.proofs.bindings_inside.Tie as tie
 
-abbrev invariant_loop : tie.invariant_loop
+abbrev invariant_loop : tie.invariant-loop-i
 invariant_loop bindings terms n i₀ i =
     (i ≤ n) × (runs_rule terms (map bound_run (drop i (records binding_layout bindings))) ≡ runs_rule terms (map bound_run (records binding_layout bindings)))
 
-abbrev decreases_loop : tie.decreases_loop
+abbrev decreases_loop : tie.decreases-loop-i
 decreases_loop bindings terms n i₀ i = n - i
 
-loop_holds : tie.Need-loop-init invariant_loop decreases_loop
+loop_holds : tie.Need-loop-i-init invariant_loop decreases_loop
 loop_holds c = (search rules, refl)
 
-returns : tie.Need-returns invariant_loop decreases_loop
+returns : tie.Need-returns-then-terms-b invariant_loop decreases_loop
 returns c =
-    let at-loop-test = c.before.before.before in
-    let at-loop = at-loop-test.before in
-    inside_not _ _ _ at-loop-test.loop-test.true c.before.before.get-binding.ensures at-loop.loop.invariant.1 (omega (arith, c.if1.true))
+    inside_not _ _ _ c.loop-i-test.true c.get_binding-b.ensures c.loop-i.invariant.1 (omega (arith, c.if-terms-b.true))
 
-returns_2 : tie.Need-returns-2 invariant_loop decreases_loop
+returns_2 : tie.Need-returns-then-terms-b-2 invariant_loop decreases_loop
 returns_2 c =
-    let at-if1 = c.before.before.before in
-    let at-get-binding = at-if1.before.before in
-    let at-loop-test = at-get-binding.before in
-    let at-loop = at-loop-test.before in
-    inside_not _ _ _ at-loop-test.loop-test.true at-get-binding.get-binding.ensures at-loop.loop.invariant.1 (omega (arith, at-if1.if1.false, c.if2.true))
+    inside_not _ _ _ c.loop-i-test.true c.get_binding-b.ensures c.loop-i.invariant.1 (omega (arith, c.if-terms-b.false, c.if-terms-b-2.true))
 
-loop_again : tie.Need-loop-preserved invariant_loop decreases_loop
+loop_again : tie.Need-loop-i-preserved invariant_loop decreases_loop
 loop_again c =
-    let at-if1 = c.before.before.before in
-    let at-get-binding = at-if1.before.before in
-    let at-loop-test = at-get-binding.before in
-    let at-loop = at-loop-test.before in (
+    (
       search rules,
-      inside_next _ _ _ at-loop-test.loop-test.true at-get-binding.get-binding.ensures at-loop.loop.invariant.1
-          (omega (arith, at-if1.if1.false, c.if2.false)),
+      inside_next _ _ _ c.loop-i-test.true c.get_binding-b.ensures c.loop-i.invariant.1
+          (omega (arith, c.if-terms-b.false, c.if-terms-b-2.false)),
     )
 
-returns_3 : tie.Need-returns-3 invariant_loop decreases_loop
-returns_3 c = inside-all _ _ c.before.loop.i c.loop-test.false c.before.loop.invariant.0 c.before.loop.invariant.1
+returns_3 : tie.Need-returns invariant_loop decreases_loop
+returns_3 c = inside-all _ _ c.loop-i.i c.loop-i-test.false c.loop-i.invariant.0 c.loop-i.invariant.1
 
 pub bindings_inside_spec : {M : Type 1} → statement M
 bindings_inside_spec =

@@ -5,16 +5,15 @@ use Rattle.pattern.specs.ApartLaws.{told_yes, told_no, told_as, rule_wrong, rule
 use Rattle.pattern.proofs.bindings_ok.Statement.{statement}
 use Rattle.pattern.proofs.bindings_ok.Tie as tie
 
-returns_2 : tie.Need-returns-2
-returns_2 c = rule_wrong _ _ (told_no c.before.each-binding-ok.ensures (not-true _ c.if2.true))
+returns_2 : tie.Need-returns-then-not-each_binding_ok
+returns_2 c = rule_wrong _ _ (told_no c.each_binding_ok.ensures (not-true _ c.if-not-each_binding_ok.true-raw))
 
-names_apart_requires : tie.Need-names-apart-requires
-names_apart_requires c κs = right_texts _ _ (told_yes c.before.each-binding-ok.ensures (not-false _ c.if2.false))
+names_apart_requires : tie.Need-names_apart-requires
+names_apart_requires c κs = right_texts _ _ (told_yes c.each_binding_ok.ensures (not-false _ c.if-not-each_binding_ok.false-raw))
 
-returns_3 : tie.Need-returns-3
+returns_3 : tie.Need-returns
 returns_3 c =
-    let at-if2 = c.before in
-    let right = told_yes at-if2.before.each-binding-ok.ensures (not-false _ at-if2.if2.false) in
+    let right = told_yes c.each_binding_ok.ensures (not-false _ c.if-not-each_binding_ok.false-raw) in
     told_as c.names_apart.ensures (rule-holds _ _ right) (rule_repeats _ _)
 
 pub bindings_ok_spec : {M : Type 1} → statement M

@@ -10,37 +10,33 @@ use Rattle.pattern.specs.ApartLaws.{right_next}
 use Rattle.pattern.proofs.each_binding_ok.Statement.{statement}
 use Rattle.pattern.proofs.each_binding_ok.Tie as tie
 
-abbrev invariant_loop : tie.invariant_loop
+abbrev invariant_loop : tie.invariant-loop-i
 invariant_loop names bindings n i₀ i = (i ≤ n) × EachRight names bindings i
 
-abbrev decreases_loop : tie.decreases_loop
+abbrev decreases_loop : tie.decreases-loop-i
 decreases_loop names bindings n i₀ i = n - i
 
-loop_holds : tie.Need-loop-init invariant_loop decreases_loop
+loop_holds : tie.Need-loop-i-init invariant_loop decreases_loop
 loop_holds c = (search rules, λ i h. absurd (omega arith))
 
-returns : tie.Need-returns invariant_loop decreases_loop
+returns : tie.Need-returns-then-not-binding_ok invariant_loop decreases_loop
 returns c =
-    let at-get-binding = c.before.before in
-    let at-loop-test = at-get-binding.before in
     it_is_not (record {
-      place = at-loop-test.before.loop.i;
-      inside = at-loop-test.loop-test.true;
-      wrong = ap (binding_rule _) (sym at-get-binding.get-binding.ensures) ∙ sym c.before.binding-ok.ensures ∙ not-true _ c.if1.true;
+      place = c.loop-i.i;
+      inside = c.loop-i-test.true;
+      wrong = ap (binding_rule _) (sym c.get_binding-b.ensures) ∙ sym c.binding_ok.ensures ∙ not-true _ c.if-not-binding_ok.true-raw;
     })
 
-loop_again : tie.Need-loop-preserved invariant_loop decreases_loop
+loop_again : tie.Need-loop-i-preserved invariant_loop decreases_loop
 loop_again c =
-    let at-get-binding = c.before.before in
-    let at-loop = at-get-binding.before.before in (
+    (
       search rules,
-      right_next _ _ at-loop.loop.invariant.1 at-get-binding.get-binding.ensures (sym c.before.binding-ok.ensures ∙ not-false _ c.if1.false),
+      right_next _ _ c.loop-i.invariant.1 c.get_binding-b.ensures (sym c.binding_ok.ensures ∙ not-false _ c.if-not-binding_ok.false-raw),
     )
 
-returns_2 : tie.Need-returns-2 invariant_loop decreases_loop
+returns_2 : tie.Need-returns invariant_loop decreases_loop
 returns_2 c =
-    let at-loop = c.before in
-    it_is (λ i h. at-loop.loop.invariant.1 i (omega (arith, c.loop-test.false)))
+    it_is (λ i h. c.loop-i.invariant.1 i (omega (arith, c.loop-i-test.false)))
 
 pub each_binding_ok_spec : {M : Type 1} → statement M
 each_binding_ok_spec =

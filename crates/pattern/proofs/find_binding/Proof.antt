@@ -9,40 +9,36 @@ use Rattle.pattern.specs.NameLaws.{found, passed, not_found, find-start, binding
 use Rattle.pattern.proofs.find_binding.Statement.{statement}
 use Rattle.pattern.proofs.find_binding.Tie as tie
 
-abbrev invariant_loop : tie.invariant_loop
+abbrev invariant_loop : tie.invariant-loop-i
 invariant_loop names bindings count kind o n i₀ i =
     (i ≤ count) × (i + find (name_at names kind o n) (drop i (binding_names names (decode binding_layout count bindings)))
     ≡ find (name_at names kind o n) (binding_names names (decode binding_layout count bindings)))
 
-abbrev decreases_loop : tie.decreases_loop
+abbrev decreases_loop : tie.decreases-loop-i
 decreases_loop names bindings count kind o n i₀ i = count - i
 
-loop_holds : tie.Need-loop-init invariant_loop decreases_loop
+loop_holds : tie.Need-loop-i-init invariant_loop decreases_loop
 loop_holds c = (search rules, find-start _ _)
 
-same_name_requires : tie.Need-same-name-requires invariant_loop decreases_loop
+same_name_requires : tie.Need-same_name-requires invariant_loop decreases_loop
 same_name_requires c κs =
-    let at-start = c.before.before.before.before.before in
-    (at-start.requires.1, binding_text _ _ _ _ at-start.requires.2 c.before.loop-test.true c.get-binding.ensures)
+    (c.requires.1, binding_text _ _ _ _ c.requires.2 c.loop-i-test.true c.get_binding-b.ensures)
 
-returns : tie.Need-returns invariant_loop decreases_loop
+returns : tie.Need-returns-then-same_name invariant_loop decreases_loop
 returns c =
-    let at-loop-test = c.before.before.before in
-    let at-loop = at-loop-test.before in
-    found _ _ _ (binding_next _ _ _ _ at-loop-test.loop-test.true c.before.before.get-binding.ensures) at-loop.loop.invariant.1
-    (sym c.before.same_name.ensures ∙ c.if1.true)
+    found _ _ _ (binding_next _ _ _ _ c.loop-i-test.true c.get_binding-b.ensures) c.loop-i.invariant.1
+    (sym c.same_name.ensures ∙ c.if-same_name.true)
 
-loop_again : tie.Need-loop-preserved invariant_loop decreases_loop
+loop_again : tie.Need-loop-i-preserved invariant_loop decreases_loop
 loop_again c =
-    let at-loop-test = c.before.before.before in
-    let at-loop = at-loop-test.before in (
+    (
       search rules,
-      passed _ _ _ (binding_next _ _ _ _ at-loop-test.loop-test.true c.before.before.get-binding.ensures) at-loop.loop.invariant.1
-          (sym c.before.same_name.ensures ∙ c.if1.false),
+      passed _ _ _ (binding_next _ _ _ _ c.loop-i-test.true c.get_binding-b.ensures) c.loop-i.invariant.1
+          (sym c.same_name.ensures ∙ c.if-same_name.false),
     )
 
-returns_2 : tie.Need-returns-2 invariant_loop decreases_loop
-returns_2 c = not_found _ _ c.before.loop.i (bindings-length _ _ _) c.loop-test.false c.before.loop.invariant.0 c.before.loop.invariant.1
+returns_2 : tie.Need-returns invariant_loop decreases_loop
+returns_2 c = not_found _ _ c.loop-i.i (bindings-length _ _ _) c.loop-i-test.false c.loop-i.invariant.0 c.loop-i.invariant.1
 
 pub find_binding_spec : {M : Type 1} → statement M
 find_binding_spec =

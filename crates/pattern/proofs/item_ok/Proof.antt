@@ -6,30 +6,26 @@ use Rattle.pattern.specs.PatternLaws.{item_literal, item_bracket, item_variable}
 use Rattle.pattern.proofs.item_ok.Statement.{statement}
 use Rattle.pattern.proofs.item_ok.Tie as tie
 
-returns : tie.Need-returns
-returns c = item_literal _ _ _ c.symbol-ok.ensures c.before.literal.ensures c.before.before.if1.true
+returns : tie.Need-returns-then-t-lt-OPEN
+returns c = item_literal _ _ _ c.symbol_ok.ensures c.literal.ensures c.if-t-lt-OPEN.true
 
-returns_2 : tie.Need-returns-2
-returns_2 c = sym (item_bracket _ _ _ c.before.before.before.before.if1.false c.before.before.if2.true (ne_eqb _ _ c.if3.true))
+returns_2 : tie.Need-returns-then-t-ne0
+returns_2 c = sym (item_bracket _ _ _ c.if-t-lt-OPEN.false c.if-t-lt-S_VARIABLE.true (ne_eqb _ _ c.if-t-ne0.true))
 
-returns_3 : tie.Need-returns-3
+returns_3 : tie.Need-returns-then-t-lt-S_VARIABLE
 returns_3 c =
-    let at-if2 = c.before.before.before in
-    let at-if1 = at-if2.before.before in
-    sym (item_bracket _ _ _ at-if1.if1.false at-if2.if2.true (eq-eqb _ _ c.before.if3.false))
+    sym (item_bracket _ _ _ c.if-t-lt-OPEN.false c.if-t-lt-S_VARIABLE.true (eq-eqb _ _ c.if-t-ne0.false))
 
-returns_4 : tie.Need-returns-4
+returns_4 : tie.Need-returns-then-not-text_ok
 returns_4 c =
-    sym (item_variable _ _ _ c.before.before.before.before.if2.false c.before.before.if4.true
-    (sym c.before.text-ok.ensures ∙ not-true _ c.if5.true))
+    sym (item_variable _ _ _ c.if-t-lt-S_VARIABLE.false c.if-t-lt-CALL.true
+    (sym c.text_ok.ensures ∙ not-true _ c.if-not-text_ok.true-raw))
 
-returns_5 : tie.Need-returns-5
+returns_5 : tie.Need-returns-then-t-lt-CALL
 returns_5 c =
-    let at-if4 = c.before.before.before in
-    let at-if2 = at-if4.before.before in
-    sym (item_variable _ _ _ at-if2.if2.false at-if4.if4.true (sym c.before.before.text-ok.ensures ∙ not-false _ c.before.if5.false))
+    sym (item_variable _ _ _ c.if-t-lt-S_VARIABLE.false c.if-t-lt-CALL.true (sym c.text_ok.ensures ∙ not-false _ c.if-not-text_ok.false-raw))
 
-returns_6 : tie.Need-returns-6
+returns_6 : tie.Need-returns
 returns_6 c = c.call_ok.ensures _
 
 pub item_ok_spec : {M : Type 1} → statement M

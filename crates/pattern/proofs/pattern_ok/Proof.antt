@@ -9,81 +9,76 @@ use Rattle.pattern.specs.PatternLaws.{Reading, Good, reading_start, all_read, ba
 use Rattle.pattern.proofs.pattern_ok.Statement.{statement}
 use Rattle.pattern.proofs.pattern_ok.Tie as tie
 
-abbrev invariant_loop : tie.invariant_loop
+abbrev invariant_loop : tie.invariant-loop-i
 invariant_loop names pattern n opened₀ depth₀ i₀ opened depth i = Reading names pattern opened depth i
 
-abbrev decreases_loop : tie.decreases_loop
+abbrev decreases_loop : tie.decreases-loop-i
 decreases_loop names pattern n opened₀ depth₀ i₀ opened depth i = n - i
 
-loop_holds : tie.Need-loop-init invariant_loop decreases_loop
+loop_holds : tie.Need-loop-i-init invariant_loop decreases_loop
 loop_holds c = reading_start _ _ _ refl
 
 -- after `item_ok` said yes: record i is within its rule by itself
-good : (c : tie.Else1 invariant_loop decreases_loop) →
-    let at_item = c.before.before in
-    let at-loop = at_item.before.before in
-    let at-start = at-loop.before.before.before in
-    Good at-start.args.names.now at-start.args.pattern.now at-loop.loop.opened at-loop.loop.depth at-loop.loop.i (as_item at_item.get-item.result)
+good : (c : tie.Else-not-item_ok invariant_loop decreases_loop) →
+    Good c.args.names.now c.args.pattern.now c.loop-i.opened c.loop-i.depth c.loop-i.i (as_item c.get_item-t.result)
 good c =
-    let at_item = c.before.before in
     record {
-      now = at_item.before.before.loop.invariant;
-      more = at_item.before.loop-test.true;
-      read = at_item.get-item.ensures;
-      rule = sym c.before.Item-ok.ensures ∙ not-false _ c.if1.false;
+      now = c.loop-i.invariant;
+      more = c.loop-i-test.true;
+      read = c.get_item-t.ensures;
+      rule = sym c.item_ok.ensures ∙ not-false _ c.if-not-item_ok.false-raw;
     }
 
-returns : tie.Need-returns invariant_loop decreases_loop
+returns : tie.Need-returns-then-not-item_ok invariant_loop decreases_loop
 returns c =
-    let at_item = c.before.before in
-    bad_item at_item.before.before.loop.invariant at_item.before.loop-test.true at_item.get-item.ensures
-    (sym c.before.Item-ok.ensures ∙ not-true _ c.if1.true)
+    bad_item c.loop-i.invariant c.loop-i-test.true c.get_item-t.ensures
+    (sym c.item_ok.ensures ∙ not-true _ c.if-not-item_ok.true-raw)
 
-returns_2 : tie.Need-returns-2 invariant_loop decreases_loop
-returns_2 c = too_deep (good c.before.before.before) c.before.if2.true c.if3.true
+returns_2 : tie.Need-returns-then-depth-ge-NESTING_LIMIT invariant_loop decreases_loop
+returns_2 c = too_deep (good c.before.before.before) c.if-t-eq-OPEN.true c.if-depth-ge-NESTING_LIMIT.true
 
-set_word_requires : tie.Need-set-word-requires invariant_loop decreases_loop
+set_word_requires : tie.Need-set_word-requires invariant_loop decreases_loop
 set_word_requires c κs = let here = good c.before.before.before.before in (omega (arith, here.now.room), omega arith)
 
-loop_again : tie.Need-loop-preserved invariant_loop decreases_loop
+loop_again : tie.Need-loop-i-preserved-then-t-eq-OPEN invariant_loop decreases_loop
 loop_again c =
-    let at-if3 = c.before.before.before in
+    let at-if3 = c.before in
     let at-if2 = at-if3.before in
-    opens (good at-if2.before.before) at-if2.if2.true at-if3.if3.false c.before.set_word.ensures
+    opens (good at-if2.before.before.before.before) at-if2.if-t-eq-OPEN.true at-if3.if-depth-ge-NESTING_LIMIT.false c.set_word.ensures
 
-returns_3 : tie.Need-returns-3 invariant_loop decreases_loop
-returns_3 c = unopened (good c.before.before.before.before.before) c.before.if4.true c.if5.true
+returns_3 : tie.Need-returns-then-depth-eq0 invariant_loop decreases_loop
+returns_3 c = unopened (good c.before.before.before.before.before) c.if-t-eq-CLOSE.true c.if-depth-eq0.true
 
 word_requires : tie.Need-word-requires invariant_loop decreases_loop
 word_requires c κs =
     let here = good c.before.before.before.before.before.before in
-    omega (arith, c.before.if5.false, here.now.room, here.now.few)
+    omega (arith, c.if-depth-eq0.false, here.now.room, here.now.few)
 
 closes_requires : tie.Need-closes-requires invariant_loop decreases_loop
 closes_requires c κs =
-    let at-if4 = c.before.before.before in
-    let here = good at-if4.before.before.before.before in
-    omega (arith, here.more, inner_below here at-if4.if4.true c.before.before.if5.false c.word.ensures)
+    let at-if4 = c.before in
+    let here = good at-if4.before.before.before.before.before.before in
+    omega (arith, here.more, inner_below here at-if4.if-t-eq-CLOSE.true c.if-depth-eq0.false c.word.ensures)
 
-returns_4 : tie.Need-returns-4 invariant_loop decreases_loop
+returns_4 : tie.Need-returns-then-not-closes invariant_loop decreases_loop
 returns_4 c =
-    let at-if5 = c.before.before.before.before in
+    let at-if5 = c.before in
     let at-if4 = at-if5.before in
-    uncloses (good at-if4.before.before.before.before) at-if4.if4.true at-if5.if5.false c.before.before.word.ensures
-    c.before.closes.ensures (not-true _ c.if6.true)
+    uncloses (good at-if4.before.before.before.before.before.before.before) at-if4.if-t-eq-CLOSE.true at-if5.if-depth-eq0.false c.word.ensures
+    c.closes.ensures (not-true _ c.if-not-closes.true-raw)
 
-loop_again_2 : tie.Need-loop-preserved-2 invariant_loop decreases_loop
+loop_again_2 : tie.Need-loop-i-preserved-then-t-eq-CLOSE invariant_loop decreases_loop
 loop_again_2 c =
-    let at-if5 = c.before.before.before.before in
+    let at-if5 = c.before in
     let at-if4 = at-if5.before in
-    closes (good at-if4.before.before.before.before) at-if4.if4.true at-if5.if5.false c.before.before.word.ensures
-    c.before.closes.ensures (not-false _ c.if6.false)
+    closes (good at-if4.before.before.before.before.before.before.before) at-if4.if-t-eq-CLOSE.true at-if5.if-depth-eq0.false c.word.ensures
+    c.closes.ensures (not-false _ c.if-not-closes.false-raw)
 
-loop_again_3 : tie.Need-loop-preserved-3 invariant_loop decreases_loop
-loop_again_3 c = other (good c.before.before.before.before) c.before.before.if2.false c.if4.false
+loop_again_3 : tie.Need-loop-i-preserved invariant_loop decreases_loop
+loop_again_3 c = other (good c.before.before.before.before) c.if-t-eq-OPEN.false c.if-t-eq-CLOSE.false
 
-returns_5 : tie.Need-returns-5 invariant_loop decreases_loop
-returns_5 c = all_read c.before.loop.invariant c.loop-test.false
+returns_5 : tie.Need-returns invariant_loop decreases_loop
+returns_5 c = all_read c.loop-i.invariant c.loop-i-test.false
 
 pub pattern_ok_spec : {M : Type 1} → statement M
 pattern_ok_spec =

@@ -11,7 +11,7 @@ use Rattle.steps.proofs.give.Tie as tie
 
 returns : tie.Need-returns
 returns c =
-    let at-set-word2 = c.before.before.before.before in
+    let at-set-word2 = c.before.before.before in
     let at-set-word = at-set-word2.before.before.before.before in
     let at-start = at-set-word.before.before.before in
     let a = at-start.args in

@@ -12,7 +12,7 @@ use Rattle.steps.proofs.turn_expression.Tie as tie
 
 returns : tie.Need-returns
 returns c =
-    let at_give = c.before.before.before in
+    let at_give = c.before.before in
     let at-if2 = at_give.before.before in
     let at-if1 = at-if2.before in
     let at-start = at-if1.before.before.before.before.before.before in

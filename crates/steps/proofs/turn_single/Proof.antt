@@ -74,7 +74,7 @@ returns_4 c =
 pass_requires : tie.Need-pass-requires
 pass_requires c κs =
     let at_some = c.before.before.before.before.before.before.before.before.before.before.before.before.before in
-    let a = at_some.before.before.before.before.before.before.requires in
+    let a = at_some.before.before.before.before.before.requires in
     (omega (arith, at_some.if1.false), omega (arith, a.0.0.inside, a.0.0.few))
 
 returns_5 : tie.Need-returns-5

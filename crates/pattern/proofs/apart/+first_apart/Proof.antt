@@ -27,22 +27,20 @@ below t = and 2 kinds.ps (falls 2 kinds.ps ◌<◌ μ t) self.Pre
 abbrev R : ℕ → lts.Claims
 R t = (first-apart-with-reads.Asked, first-apart-with-reads.Learnt, get-binding-reads.Asked, get-binding-reads.Learnt, below t, self.Post)
 
-first_apart_with_requires : (t : ℕ) → lts.Need-first-apart-with-requires (R t) (at t) self.Post
+first_apart_with_requires : (t : ℕ) → lts.Need-first_apart_with-outcome-requires (R t) (at t) self.Post
 first_apart_with_requires t c κs =
-    let (small, texts) = c.before.before.before.before.requires.1 in
+    let (small, texts) = c.requires.1 in
     (small, tables_none _ _ _ texts)
 
 -- the first binding's name lies in the names
-first_apart_requires : (t : ℕ) → lts.Need-first-apart-requires (R t) (at t) self.Post
+first_apart_requires : (t : ℕ) → lts.Need-first_apart-requires (R t) (at t) self.Post
 unfolding BindingTexts
 first_apart_requires t c κs =
-    let at-if1 = c.before.before.before in
-    let at-start = at-if1.before.before.before.before.before.before.before.before in
-    let text = at-start.requires.1.1 0 (omega (arith, at-if1.if1.false)) in
-    absurd (omega (arith, c.if2.true, rw (← c.before.before.get-binding.ensures) at text))
+    let text = c.requires.1.1 0 (omega (arith, c.if-bindings-lt-BINDING_WIDTH.false)) in
+    absurd (omega (arith, c.if-names-b.true, rw (← c.get_binding-b.ensures) at text))
 
-pub +first-apart-spec : {M : Type 1} → statement M
-+first-apart-spec = close μ λ t. lts.spec (R t)
+pub +first_apart_spec : {M : Type 1} → statement M
++first_apart_spec = close μ λ t. lts.spec (R t)
     (at t)
     self.Post
     (λ c. search rules)

@@ -9,7 +9,7 @@ use Rattle.pattern.proofs.apart.bucket_of.Tie as tie
 
 returns : tie.Need-returns
 unfolding spec_bucket_of
-returns c = ap (◌% buckets) c.digest-text.ensures
+returns c = ap (◌% buckets) c.digest_text.ensures
 
 pub bucket_of_spec : {M : Type 1} → statement M
 bucket_of_spec = tie.close (tie.spec (λ c κs. search rules) returns)

@@ -9,28 +9,27 @@ use Rattle.pattern.specs.ApartLaws.{tells_none, tells-one, tells_given_up}
 use Rattle.pattern.proofs.apart.first_told.Statement.{statement}
 use Rattle.pattern.proofs.apart.first_told.Tie as tie
 
-abbrev invariant_loop : tie.invariant_loop
+abbrev invariant_loop : tie.invariant-loop-left
 invariant_loop names bindings base₀ left₀ base left = base < prime
 
-abbrev decreases_loop : tie.decreases_loop
+abbrev decreases_loop : tie.decreases-loop-left
 decreases_loop names bindings base₀ left₀ base left = left
 
-first_apart_requires : tie.Need-first-apart-requires invariant_loop decreases_loop
-first_apart_requires c κs = (c.loop.invariant, c.before.before.before.requires)
+first_apart_requires : tie.Need-first_apart-requires invariant_loop decreases_loop
+first_apart_requires c κs = (c.loop-left.invariant, c.requires)
 
-returns : tie.Need-returns invariant_loop decreases_loop
-returns c = it_is (tells_none (rw c.enum_told.given.1 at c.before.before.first-apart.ensures))
+returns : tie.Need-returns-in-NoneRepeats invariant_loop decreases_loop
+returns c = it_is (tells_none (rw c.in-NoneRepeats.is at c.first_apart.ensures))
 
-returns_2 : tie.Need-returns-2 invariant_loop decreases_loop
-returns_2 c = it_is_not (tells-one (rw c.enum-told2.given.1 at c.before.before.first-apart.ensures))
+returns_2 : tie.Need-returns-in-OneRepeats invariant_loop decreases_loop
+returns_2 c = it_is_not (tells-one (rw c.in-OneRepeats.is at c.first_apart.ensures))
 
-sub_left : tie.Need-overflow-sub-left invariant_loop decreases_loop
+sub_left : tie.Need-overflow_sub-left invariant_loop decreases_loop
 sub_left c =
-    let at_call = c.before.before in
-    let counted = tells_given_up (rw c.enum-told3.given.1 at at_call.first-apart.ensures) in
-    omega (arith, eqb-false at_call.before.loop.left 0 counted)
+    let counted = tells_given_up (rw c.in-GivenUp.is at c.first_apart.ensures) in
+    omega (arith, eqb-false c.loop-left.left 0 counted)
 
-loop_less : tie.Need-loop-smaller invariant_loop decreases_loop
+loop_less : tie.Need-loop-left-smaller invariant_loop decreases_loop
 loop_less c = omega (arith, sub_left c)
 
 pub first_told_spec : {M : Type 1} → statement M

@@ -8,33 +8,29 @@ use Rattle.pattern.specs.ApartLaws.{told_yes, told_no, rest_texts, rest_repeats,
 use Rattle.pattern.proofs.apart.names_apart.Statement.{statement}
 use Rattle.pattern.proofs.apart.names_apart.Tie as tie
 
-abbrev invariant_loop : tie.invariant_loop
+abbrev invariant_loop : tie.invariant-loop-from
 invariant_loop names bindings n from₀ from = Apart names bindings from n
 
-abbrev decreases_loop : tie.decreases_loop
+abbrev decreases_loop : tie.decreases-loop-from
 decreases_loop names bindings n from₀ from = n - from
 
-loop_holds : tie.Need-loop-init invariant_loop decreases_loop
+loop_holds : tie.Need-loop-from-init invariant_loop decreases_loop
 loop_holds c d k low = absurd (omega arith)
 
-first_told_requires : tie.Need-first-told-requires invariant_loop decreases_loop
+first_told_requires : tie.Need-first_told-requires invariant_loop decreases_loop
 first_told_requires c κs =
-    let at-loop = c.before.before in
-    let start = at-loop.before.before.before in
-    rest_texts _ _ at-loop.loop.from start.requires
+    rest_texts _ _ c.loop-from.from c.requires
 
-returns : tie.Need-returns invariant_loop decreases_loop
+returns : tie.Need-returns-then-not-first_told invariant_loop decreases_loop
 returns c =
-    let at-loop = c.before.before.before.before in
-    it_is_not (rest_repeats _ _ at-loop.loop.from (told_no c.before.first-told.ensures (not-true _ c.if1.true)))
+    it_is_not (rest_repeats _ _ c.loop-from.from (told_no c.first_told.ensures (not-true _ c.if-not-first_told.true-raw)))
 
-loop_again : tie.Need-loop-preserved invariant_loop decreases_loop
+loop_again : tie.Need-loop-from-preserved invariant_loop decreases_loop
 loop_again c =
-    let at-loop = c.before.before.before.before in
-    rest-apart _ _ at-loop.loop.from at-loop.loop.invariant (told_yes c.before.first-told.ensures (not-false _ c.if1.false))
+    rest-apart _ _ c.loop-from.from c.loop-from.invariant (told_yes c.first_told.ensures (not-false _ c.if-not-first_told.false-raw))
 
-returns_2 : tie.Need-returns-2 invariant_loop decreases_loop
-returns_2 c = it_is (λ d k low. c.before.loop.invariant d k (omega (arith, c.loop-test.false)))
+returns_2 : tie.Need-returns invariant_loop decreases_loop
+returns_2 c = it_is (λ d k low. c.loop-from.invariant d k (omega (arith, c.loop-from-test.false)))
 
 pub names_apart_spec : {M : Type 1} → statement M
 names_apart_spec =
