@@ -53,7 +53,7 @@ loop_again c =
     let at-set-word = c in
     let at-if1 = at-set-word.before in
     let now = here at-if1.before.before.before.before (not-true _ at-if1.if-not-is_variable.true-raw) in
-    (at-set-word.set_word.auto.0 ∙ at-if1.loop-i.invariant.0, plain now at-set-word.set_word.ensures)
+    (at-set-word.set_word.auto.words ∙ at-if1.loop-i.invariant.0, plain now at-set-word.set_word.ensures)
 
 find_name_requires : tie.Need-find_name-at-requires invariant_loop decreases_loop
 find_name_requires c κs =
@@ -97,7 +97,7 @@ loop_again_2 c =
     let asked = at-if1.requires in
     let now = variable_here at-if1.before.before.before.before.before.before.before in
     let within = item_text _ _ _ asked.1.0 now.more now.read now.kind in (
-      at-set-word2.set_word-in-loop-i.auto.0 ∙ at-if1.loop-i.invariant.0,
+      at-set-word2.set_word-in-loop-i.auto.words ∙ at-if1.loop-i.invariant.0,
       met now at-find-name.find_name-at.ensures at-set-word2.set_word-in-loop-i.ensures within at-if2.if-at-ge-NAME_LIMIT.false at-if3.if-start-new.true c.set_word-then-start-new.ensures,
     )
 
@@ -106,7 +106,7 @@ loop_again_3 c =
     let at-set-word2 = c in
     let at-find-name = at-set-word2.before in
     let at-if1 = at-find-name.before in (
-      at-set-word2.set_word-in-loop-i.auto.0 ∙ at-if1.loop-i.invariant.0,
+      at-set-word2.set_word-in-loop-i.auto.words ∙ at-if1.loop-i.invariant.0,
       known (variable_here at-if1.before.before.before.before.before.before) at-find-name.find_name-at.ensures at-set-word2.set_word-in-loop-i.ensures c.if-start-new.false,
     )
 

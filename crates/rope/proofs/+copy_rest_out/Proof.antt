@@ -45,13 +45,13 @@ R t = (
   copy-places-reads.Learnt,
 )
 
-abbrev invariant_loop : lts.invariant_loop
+abbrev invariant_loop : lts.invariant-loop-done
 invariant_loop terms nodes node from len work₀ list₀ done₀ work list done =
     (length list ≡ part) × (done ≤ len)
     × ((used : ℕ) → Task terms (count term_layout terms) nodes used node len 0 work₀
     → Filled terms (count term_layout terms) nodes used node len 0 work₀ from work done)
 
-abbrev decreases_loop : lts.decreases_loop
+abbrev decreases_loop : lts.decreases-loop-done
 decreases_loop terms nodes node from len work₀ list₀ done₀ work list done = len - done
 
 module _ (t : ℕ) where
@@ -61,89 +61,88 @@ module _ (t : ℕ) where
   Start = lts.Start (R t) (at t) self.Post invariant_loop decreases_loop
 
   abbrev Met : Type 0
-  Met = lts.Joined1 (R t) (at t) self.Post invariant_loop decreases_loop
+  Met = lts.Joined-len-from (R t) (at t) self.Post invariant_loop decreases_loop
 
   abbrev begin : Met → Start
-  begin c = c.before.before.before.before
+  begin c = c.before
 
   -- ---- facts at these places ----
 
   -- the function did not call itself: the buffer is as it came
-  kept : (c : Met) → c.if1.work ≡ (begin c).args.work.now
-  kept c = ⊎_elim (λ w. absurd (omega (arith, w.0.taken, (begin c).requires.1.1.0))) (λ w. w.1) c.if1.branch
+  kept : (c : Met) → c.if-len-from.work ≡ (begin c).args.work.now
+  kept c = ⊎_elim (λ w. absurd (omega (arith, w.0.taken, (begin c).requires.1.1.0))) (λ w. w.1) c.if-len-from.branch
 
-  room : (c : Met) → Lies term_layout c.if1.work (begin c).args.len
+  room : (c : Met) → Lies term_layout c.if-len-from.work (begin c).args.len
   room c = omega (arith, ap length (kept c), (begin c).requires.1.1.1)
 
   -- what is to be done, in the store that is there
   task : (c : Met)
       → let x = (begin c).args in
-      Task x.terms.now (count term_layout x.terms.now) x.nodes.now (begin c).requires.1.0.used x.node x.len 0 c.if1.work
+      Task x.terms.now (count term_layout x.terms.now) x.nodes.now (begin c).requires.1.0.used x.node x.len 0 c.if-len-from.work
   task c = let asked = (begin c).requires.1 in task_out asked.0.below asked.0.reaches (room c)
 
   -- the part of a turn
-  inside : (c : lts.After-smaller (R t) (at t) self.Post invariant_loop decreases_loop)
-      → let at-loop = c.before.before in
-      at-loop.loop.done + c.smaller.result ≤ (begin at-loop.before).args.len
-  inside c = omega (arith, c.smaller.ensures)
+  inside : (c : lts.After-smaller-k (R t) (at t) self.Post invariant_loop decreases_loop)
+      → let at-loop = c.before in
+      at-loop.loop-done.done + c.smaller-k.result ≤ (begin at-loop.before).args.len
+  inside c = omega (arith, c.smaller-k.ensures)
 
   -- ---- needs ----
 
-  no_call : lts.Need-copy-rest-out-requires (R t) (at t) self.Post invariant_loop decreases_loop
+  no_call : lts.Need-copy_rest_out-requires (R t) (at t) self.Post invariant_loop decreases_loop
   no_call c κs =
-      let at-if1 = c.before in
-      absurd (omega (arith, at-if1.before.before.before.before.requires.1.1.0, at-if1.if1.true))
+      absurd (omega (arith, c.requires.1.1.0, c.if-len-from.true))
 
-  loop_holds : lts.Need-loop-init (R t) (at t) self.Post invariant_loop decreases_loop
+  loop_holds : lts.Need-loop-done-init (R t) (at t) self.Post invariant_loop decreases_loop
   loop_holds c = let least = (begin c).requires.1.1.0 in (refl, least, λ used asked. filled_none asked least)
 
-  read_places_requires : lts.Need-read-places-requires (R t) (at t) self.Post invariant_loop decreases_loop
+  read_places_requires : lts.Need-read_places-requires (R t) (at t) self.Post invariant_loop decreases_loop
   read_places_requires c κs =
       let part-found = c.before in
-      let at-loop = part-found.before.before in
-      let most = part-found.smaller.ensures in
-      (task_part (task at-loop.before) _ _ (inside part-found), (omega (arith, most), omega (arith, most, at-loop.loop.invariant.0)))
+      let at-loop = part-found.before in
+      let most = part-found.smaller-k.ensures in
+      (task_part (task at-loop.before) _ _ (inside part-found), (omega (arith, most), omega (arith, most, at-loop.loop-done.invariant.0)))
 
-  copy_places_requires : lts.Need-copy-places-requires (R t) (at t) self.Post invariant_loop decreases_loop
+  copy_places_requires : lts.Need-copy_places-requires (R t) (at t) self.Post invariant_loop decreases_loop
   copy_places_requires c κs =
-      let read = c.before.before.before in
-      let part-found = read.before.before in
-      let at-loop = part-found.before.before in
+      let read = c.before in
+      let part-found = read.before in
+      let at-loop = part-found.before in
       let asked = task at-loop.before in
-      let l = filled-length (at-loop.loop.invariant.2 _ asked) in
-      let low = part_low _ _ (task_store asked) (task_reaches asked _ _ (inside part-found)) _ _ read.read-places.ensures in (
-        (omega (arith, part-found.smaller.ensures, read.read-places.ensures.1, at-loop.loop.invariant.0), λ i lt. omega (arith, asked.there, low i lt)),
+      let l = filled-length (at-loop.loop-done.invariant.2 _ asked) in
+      let low = part_low _ _ (task_store asked) (task_reaches asked _ _ (inside part-found)) _ _ read.read_places.ensures in (
+        (omega (arith, part-found.smaller-k.ensures, read.read_places.ensures.1, at-loop.loop-done.invariant.0), λ i lt. omega (arith, asked.there, low i lt)),
         omega (arith, asked.room, inside part-found),
       )
 
-  add_done : lts.Need-overflow-add-done (R t) (at t) self.Post invariant_loop decreases_loop
+  add_done : lts.Need-overflow_add-done (R t) (at t) self.Post invariant_loop decreases_loop
   add_done c =
-      let part-found = c.before.before.before.before.before.before.before.before in
-      omega (arith, inside part-found, task_short (task part-found.before.before.before))
+      let part-found = c.before in
+      omega (arith, inside part-found, task_short (task part-found.before))
 
-  loop_less : lts.Need-loop-smaller (R t) (at t) self.Post invariant_loop decreases_loop
+  loop_less : lts.Need-loop-done-smaller (R t) (at t) self.Post invariant_loop decreases_loop
   loop_less c =
-      let part-found = c.before.before.before.before.before.before.before.before in
-      omega (arith, inside part-found, part-found.smaller.ensures)
+      let part-found = c.before in
+      omega (arith, inside part-found, part-found.smaller-k.ensures)
 
-  loop_again : lts.Need-loop-preserved (R t) (at t) self.Post invariant_loop decreases_loop
+  loop_again : lts.Need-loop-done-preserved (R t) (at t) self.Post invariant_loop decreases_loop
   loop_again c =
-      let copied = c.before.before in
-      let read = copied.before.before.before.before in
-      let part-found = read.before.before in
-      let at-loop = part-found.before.before in
+      let copied = c.before in
+      let read = copied.before in
+      let part-found = read.before in
+      let at-loop = part-found.before in
       let store = (begin at-loop.before).args.terms.now in (
-        read.read-places.ensures.1 ∙ at-loop.loop.invariant.0,
+        read.read_places.ensures.1 ∙ at-loop.loop-done.invariant.0,
         inside part-found,
         λ used asked.
-            let so_far = at-loop.loop.invariant.2 used asked in
-            filled_next so_far _ (inside part-found) _ _ read.read-places.ensures store refl _ (omega arith) copied.copy_places.ensures,
+            let so_far = at-loop.loop-done.invariant.2 used asked in
+            filled_next so_far _ (inside part-found) _ _ read.read_places.ensures store refl _ (omega arith) copied.copy_places.ensures,
       )
 
-  same_length : lts.Need-same-length (R t) (at t) self.Post invariant_loop decreases_loop
+  same_length : lts.Need-shape_of-work (R t) (at t) self.Post invariant_loop decreases_loop
   same_length c =
       let at-loop = c.before in
-      filled-length (at-loop.loop.invariant.2 _ (task at-loop.before)) ∙ ap length (kept at-loop.before)
+      filled-length (at-loop.loop-done.invariant.2 _ (task at-loop.before)) ∙ ap length (kept at-loop.before)
 
   returns : lts.Need-returns (R t) (at t) self.Post invariant_loop decreases_loop
   unfolding records
@@ -151,11 +150,11 @@ module _ (t : ℕ) where
       let at-loop = c.before in
       let met = at-loop.before in
       let x = (begin met).args in
-      subst (λ w. CopiedOut x.terms.now x.nodes.now x.node x.len x.from x.len w at-loop.loop.work) (kept met)
-      λ used low reaches. rw zero-add at (filled-all (at-loop.loop.invariant.2 used (task_out low reaches (room met))) (omega arith))
+      subst (λ w. CopiedOut x.terms.now x.nodes.now x.node x.len x.from x.len w at-loop.loop-done.work) (kept met)
+      λ used low reaches. rw zero-add at (filled-all (at-loop.loop-done.invariant.2 used (task_out low reaches (room met))) (omega arith))
 
-pub +copy-rest-out-spec : {M : Type 1} → statement M
-+copy-rest-out-spec = close μ λ t. lts.spec (R t)
+pub +copy_rest_out_spec : {M : Type 1} → statement M
++copy_rest_out_spec = close μ λ t. lts.spec (R t)
     (at t)
     self.Post
     invariant_loop
@@ -164,7 +163,7 @@ pub +copy-rest-out-spec : {M : Type 1} → statement M
     (loop_holds t)
     (λ c. omega arith)
     (λ c κs. tt)
-    (λ c. sym c.before.before.before.loop.invariant.0)
+    (λ c. sym c.loop-done.invariant.0)
     (read_places_requires t)
     (copy_places_requires t)
     (add_done t)

@@ -25,23 +25,21 @@ below t = and 3 kinds.ps (falls 3 kinds.ps ◌<◌ μ t) self.Pre
 abbrev R : ℕ → lts.Claims
 R t = (number-terms-reads.Asked, number-terms-reads.Learnt, below t, self.Post, equal-parts-reads.Asked, equal-parts-reads.Learnt)
 
-equal_rest_requires : (t : ℕ) → lts.Need-equal-rest-requires (R t) (at t) self.Post
-equal_rest_requires t c κs = absurd (omega (arith, c.before.before.before.before.before.before.before.requires.1.1.1.few, c.if1.true))
+equal_rest_requires : (t : ℕ) → lts.Need-equal_rest-requires (R t) (at t) self.Post
+equal_rest_requires t c κs = absurd (omega (arith, c.requires.1.1.1.few, c.if-terms_used-gt-LIMIT.true))
 
-equal_parts_requires : (t : ℕ) → lts.Need-equal-parts-requires (R t) (at t) self.Post
+equal_parts_requires : (t : ℕ) → lts.Need-equal_parts-requires (R t) (at t) self.Post
 equal_parts_requires t c κs =
-    let numbered = c.before.before.before in
-    let asked = numbered.before.before.before.before.before.requires.1 in
+    let asked = c.requires.1 in
     let good = asked.1.1 in
-    (asked.0, (_, _, _, _, record { known = numbered.number-terms.ensures.0; few = good.few; shows = good.shows }))
+    (asked.0, (_, _, _, _, record { known = c.number_terms.ensures.0; few = good.few; shows = good.shows }))
 
-returns_2 : (t : ℕ) → lts.Need-returns-2 (R t) (at t) self.Post
+returns_2 : (t : ℕ) → lts.Need-returns (R t) (at t) self.Post
 returns_2 t c used good =
-    let numbered = c.before.before.before.before in
-    c.equal-parts.ensures _ _ _ used (record { known = numbered.number-terms.ensures.0; few = good.few; shows = good.shows })
+    c.equal_parts.ensures _ _ _ used (record { known = c.number_terms.ensures.0; few = good.few; shows = good.shows })
 
-pub +equal-rest-spec : {M : Type 1} → statement M
-+equal-rest-spec = close μ λ t. lts.spec (R t)
+pub +equal_rest_spec : {M : Type 1} → statement M
++equal_rest_spec = close μ λ t. lts.spec (R t)
     (at t)
     self.Post
     (λ c. search rules)

@@ -8,24 +8,19 @@ use Rattle.rope.specs.AtLaws.{some_kept, copied_rest}
 use Rattle.rope.proofs.copy_after.Statement.{statement}
 use Rattle.rope.proofs.copy_after.Tie as tie
 
-returns : tie.Need-returns
+returns : tie.Need-returns-then-done-len
 returns c used store reaches =
-    let whole = c.before.before in
-    let some = whole.before.before.before.before.before in
-    let start = some.before.before.before.before in
-    let asked = start.requires.1 in
-    let first = rw add-zero at (some.copy-some-after.ensures.1 used store reaches) in
+    let asked = c.requires.1 in
+    let first = rw add-zero at (c.copy_some_after-done.ensures.1 used store reaches) in
     let task = task_after asked.0 asked.1 store reaches in
-    let most = some.copy-some-after.ensures.0 in
+    let most = c.copy_some_after-done.ensures.0 in
     let kept = some_kept task _ most (omega arith) first in
-    copied_rest task _ most _ refl first (rw kept at (whole.copy-rest-after.ensures used store reaches))
+    copied_rest task _ most _ refl first (rw kept at (c.copy_rest_after.ensures used store reaches))
 
-returns_2 : tie.Need-returns-2
+returns_2 : tie.Need-returns-else-done-len
 returns_2 c used store reaches =
-    let some = c.before.before.before in
-    let start = some.before.before.before.before in
-    let e : some.copy-some-after.result ≡ start.args.len = omega (arith, some.copy-some-after.ensures.0, c.if1.false) in
-    rw (add-zero, e) at (some.copy-some-after.ensures.1 used store reaches)
+    let e : c.copy_some_after-done.result ≡ c.args.len = omega (arith, c.copy_some_after-done.ensures.0, c.if-done-len.false) in
+    rw (add-zero, e) at (c.copy_some_after-done.ensures.1 used store reaches)
 
 pub copy_after_spec : {M : Type 1} → statement M
 copy_after_spec =

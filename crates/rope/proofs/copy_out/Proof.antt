@@ -8,22 +8,17 @@ use Rattle.rope.specs.AtLaws.{copied_rest}
 use Rattle.rope.proofs.copy_out.Statement.{statement}
 use Rattle.rope.proofs.copy_out.Tie as tie
 
-returns : tie.Need-returns
+returns : tie.Need-returns-then-done-len
 unfolding records
 returns c used below reaches =
-    let whole = c.before.before in
-    let some = whole.before.before.before.before.before in
-    let start = some.before.before.before.before.before in
-    copied_rest (task_out below reaches start.requires.1) _ some.copy-some-out.ensures.0 _ (omega arith) (some.copy-some-out.ensures.1 used below reaches)
-    (whole.copy-rest-out.ensures used below reaches)
+    copied_rest (task_out below reaches c.requires.1) _ c.copy_some_out-done.ensures.0 _ (omega arith) (c.copy_some_out-done.ensures.1 used below reaches)
+    (c.copy_rest_out.ensures used below reaches)
 
-returns_2 : tie.Need-returns-2
+returns_2 : tie.Need-returns-else-done-len
 unfolding records
 returns_2 c used below reaches =
-    let some = c.before.before.before in
-    let start = some.before.before.before.before.before in
-    let e : some.copy-some-out.result ≡ start.args.len = omega (arith, some.copy-some-out.ensures.0, c.if1.false) in
-    rw e at (some.copy-some-out.ensures.1 used below reaches)
+    let e : c.copy_some_out-done.result ≡ c.args.len = omega (arith, c.copy_some_out-done.ensures.0, c.if-done-len.false) in
+    rw e at (c.copy_some_out-done.ensures.1 used below reaches)
 
 pub copy_out_spec : {M : Type 1} → statement M
 copy_out_spec =

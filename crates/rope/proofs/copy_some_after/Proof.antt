@@ -13,13 +13,13 @@ use Rattle.rope.specs.CopiedLaws.{Task, Found, Done, task_after, task_short, don
 use Rattle.rope.proofs.copy_some_after.Statement.{statement}
 use Rattle.rope.proofs.copy_some_after.Tie as tie
 
-abbrev invariant_loop : tie.invariant_loop
+abbrev invariant_loop : tie.invariant-loop-done
 invariant_loop terms₀ terms-used nodes node len stack₀ at₀ done₀ terms stack at done =
     (at.depth ≤ most_fields)
     × ((used : ℕ) → Task terms₀ terms-used nodes used node len terms-used terms₀
     → Done terms₀ terms-used nodes used node len terms-used terms₀ (rest_of at stack) terms done)
 
-abbrev decreases_loop : tie.decreases_loop
+abbrev decreases_loop : tie.decreases-loop-done
 decreases_loop terms₀ terms-used nodes node len stack₀ at₀ done₀ terms stack at done = len - done
 
 -- what is to be done, in a store of the words
@@ -32,120 +32,114 @@ task : (start : tie.Start invariant_loop decreases_loop) → Asked start start.r
 task start = let asked = start.requires in task_after asked.1.0 asked.1.1 asked.0.store asked.0.reaches
 
 -- the piece is taken down to a run
-run : (c : tie.Else1 invariant_loop decreases_loop) {used : ℕ}
-    → let at-run = c.before.before in
-    let at-loop = at-run.before.before.before in
-    let start = at-loop.before.before.before.before in
+run : (c : tie.Else-at-eq0 invariant_loop decreases_loop) {used : ℕ}
+    → let at-run = c.before in
+    let at-loop = at-run.before in
+    let start = at-loop.before in
     Asked start used
-    → ToRun (nodes_in start.args.nodes.now used) (rest_of at-loop.loop.at at-loop.loop.stack) (rest_of at-run.to-run.result at-run.to-run.new.1.0)
+    → ToRun (nodes_in start.args.nodes.now used) (rest_of at-loop.loop-done.at at-loop.loop-done.stack) (rest_of at-run.to_run-at.result at-run.to_run-at.new.1.0)
 run c asked =
-    let at-run = c.before.before in
-    let in-loop = at-run.before.before in
-    at-run.to-run.ensures.1 (omega (arith, c.if1.false)) _ asked.store ((in-loop.before.loop.invariant.1 _ asked).along.ready in-loop.loop-test.true)
+    c.to_run-at.ensures.1 (omega (arith, c.if-at-eq0.false)) _ asked.store ((c.loop-done.invariant.1 _ asked).along.ready c.loop-done-test.true)
 
 -- the node that it begins in is there
-below : (c : tie.Else1 invariant_loop decreases_loop) {used : ℕ}
-    → let at-run = c.before.before in
-    Asked at-run.before.before.before.before.before.before.before used
-    → at-run.to-run.result.node < used
+below : (c : tie.Else-at-eq0 invariant_loop decreases_loop) {used : ℕ}
+    → let at-run = c.before in
+    Asked at-run.before used
+    → at-run.to_run-at.result.node < used
 below c asked = rw decode-length at (run c asked).goes.ready.low
 
 -- the run of a turn
-found : (c : tie.After-front invariant_loop decreases_loop)
-    → let at-run = c.before.before.before in
-    let at-loop = at-run.before.before.before in
-    let x = at-loop.before.before.before.before.args in
-    Found x.terms-used x.len at-loop.loop.done (rest_of at-run.to-run.result at-run.to-run.new.1.0) (as_run c.front.result)
+found : (c : tie.After-front-r invariant_loop decreases_loop)
+    → let x = c.args in
+    Found x.terms-used x.len c.loop-done.done (rest_of c.to_run-at.result c.to_run-at.new.1.0) (as_run c.front-r.result)
 found c =
     let has-fuel = c.before in
-    let in-loop = has-fuel.before.before.before.before in
-    let asked = task in-loop.before.before.before.before.before in
-    let so_far = done_run (in-loop.before.loop.invariant.1 _ asked) (run has-fuel asked).goes in
-    done_found so_far in-loop.loop-test.true (run has-fuel asked).begins (c.front.ensures _ (below has-fuel asked))
+    let in-loop = has-fuel.before in
+    let asked = task in-loop.before in
+    let so_far = done_run (in-loop.loop-done.invariant.1 _ asked) (run has-fuel asked).goes in
+    done_found so_far in-loop.loop-done-test.true (run has-fuel asked).begins (c.front-r.ensures _ (below has-fuel asked))
 
 -- its terms lie in the slice
-there : (c : tie.After-front invariant_loop decreases_loop)
-    → let at-loop = c.before.before.before.before.before.before in
-    let x = at-loop.before.before.before.before.args in
+there : (c : tie.After-front-r invariant_loop decreases_loop)
+    → let x = c.args in
     Lies term_layout x.terms.now (x.terms-used + x.len)
-there c = let at-loop = c.before.before.before.before.before.before in (task at-loop.before.before.before.before).room
+there c = (task c.before).room
 
-whole_requires : tie.Need-whole-requires invariant_loop decreases_loop
-whole_requires c κs = task_short (task c.before.before)
+whole_requires : tie.Need-whole-at-requires invariant_loop decreases_loop
+whole_requires c κs = task_short (task c.before)
 
-loop_holds : tie.Need-loop-init invariant_loop decreases_loop
-loop_holds c = rw c.whole.ensures (omega arith, λ used asked. done_none asked _)
+loop_holds : tie.Need-loop-done-init invariant_loop decreases_loop
+loop_holds c = rw c.whole-at.ensures (omega arith, λ used asked. done_none asked _)
 
-to_run_requires : tie.Need-to-run-requires invariant_loop decreases_loop
+to_run_requires : tie.Need-to_run-at-requires invariant_loop decreases_loop
 to_run_requires c κs =
     let in-loop = c.before in
-    let inv = in-loop.before.loop.invariant in
-    let asked = task in-loop.before.before.before.before.before in
-    (record { used = _; store = asked.store; ready = (inv.1 _ asked).along.ready in-loop.loop-test.true }, inv.0)
+    let inv = in-loop.loop-done.invariant in
+    let asked = task in-loop.before in
+    (record { used = _; store = asked.store; ready = (inv.1 _ asked).along.ready in-loop.loop-done-test.true }, inv.0)
 
 -- ---- the fuel is spent ----
 
-same_length : tie.Need-same-length invariant_loop decreases_loop
+same_length : tie.Need-shape_of-terms-then-at-eq0 invariant_loop decreases_loop
 same_length c =
-    let at-loop = c.before.before.before.before.before in
-    done_length (at-loop.loop.invariant.1 _ (task at-loop.before.before.before.before))
+    let at-loop = c.before in
+    done_length (at-loop.loop-done.invariant.1 _ (task at-loop.before))
 
-returns : tie.Need-returns invariant_loop decreases_loop
+returns : tie.Need-returns-then-at-eq0 invariant_loop decreases_loop
 returns c =
-    let at-loop = c.before.before.before.before.before in
-    let start = at-loop.before.before.before.before in
+    let at-loop = c.before in
+    let start = at-loop.before in
     let asked = start.requires.1 in (
-      (at-loop.loop.invariant.1 _ (task start)).along.most,
-      λ used store reaches. rw add-zero (at-loop.loop.invariant.1 used (task_after asked.0 asked.1 store reaches)).words,
+      (at-loop.loop-done.invariant.1 _ (task start)).along.most,
+      λ used store reaches. rw add-zero (at-loop.loop-done.invariant.1 used (task_after asked.0 asked.1 store reaches)).words,
     )
 
 -- ---- a run ----
 
-front_requires : tie.Need-front-requires invariant_loop decreases_loop
+front_requires : tie.Need-front-r-requires invariant_loop decreases_loop
 front_requires c κs =
-    let asked = task c.before.before.before.before.before.before.before.before.before in
+    let asked = task c.before in
     record { used = _; store = asked.store; low = below c asked; begins = (run c asked).begins }
 
-copy_run_up_requires : tie.Need-copy-run-up-requires invariant_loop decreases_loop
+copy_run_up_requires : tie.Need-copy_run_up-requires invariant_loop decreases_loop
 copy_run_up_requires c κs =
-    let at_front = c.before.before.before in
+    let at_front = c.before in
     let next = found at_front in
-    let at-loop = at_front.before.before.before.before.before.before in
-    let asked = task at-loop.before.before.before.before in
-    let l = done_length (at-loop.loop.invariant.1 _ asked) in
+    let at-loop = at_front.before in
+    let asked = task at-loop.before in
+    let l = done_length (at-loop.loop-done.invariant.1 _ asked) in
     (omega (arith, asked.there), omega (arith, asked.room))
 
-past_requires : tie.Need-past-requires invariant_loop decreases_loop
+past_requires : tie.Need-past-at-requires invariant_loop decreases_loop
 past_requires c κs =
-    let at_front = c.before.before.before.before.before.before.before.before in
+    let at_front = c.before in
     let next = found at_front in
-    (next.within, next.near, at_front.before.before.before.to-run.ensures.0, omega (arith, next))
+    (next.within, next.near, at_front.to_run-at.ensures.0, omega (arith, next))
 
-loop_again : tie.Need-loop-preserved invariant_loop decreases_loop
+loop_again : tie.Need-loop-done-preserved invariant_loop decreases_loop
 loop_again c =
-    let copied = c.before.before.before.before.before in
-    let at_front = copied.before.before.before.before in
+    let copied = c.before in
+    let at_front = copied.before in
     let has-fuel = at_front.before in
-    let in-loop = has-fuel.before.before.before.before in (
-      c.past.ensures.0,
+    (
+      c.past-at.ensures.0,
       λ used asked.
-          let so_far = done_run (in-loop.before.loop.invariant.1 used asked) (run has-fuel asked).goes in
-          done_next so_far in-loop.loop-test.true (run has-fuel asked).begins (at_front.front.ensures _ (below has-fuel asked)) _ (done_below so_far asked.there) _ refl
-          c.past.ensures.1 copied.copy-run-up.ensures,
+          let so_far = done_run (has-fuel.loop-done.invariant.1 used asked) (run has-fuel asked).goes in
+          done_next so_far has-fuel.loop-done-test.true (run has-fuel asked).begins (at_front.front-r.ensures _ (below has-fuel asked)) _ (done_below so_far asked.there) _ refl
+          c.past-at.ensures.1 copied.copy_run_up.ensures,
     )
 
 -- ---- all terms are copied ----
 
-same_length_2 : tie.Need-same-length-2 invariant_loop decreases_loop
+same_length_2 : tie.Need-shape_of-terms invariant_loop decreases_loop
 same_length_2 c =
     let at-loop = c.before in
-    done_length (at-loop.loop.invariant.1 _ (task at-loop.before.before.before.before))
+    done_length (at-loop.loop-done.invariant.1 _ (task at-loop.before))
 
-returns_2 : tie.Need-returns-2 invariant_loop decreases_loop
+returns_2 : tie.Need-returns invariant_loop decreases_loop
 returns_2 c =
-    let at-loop = c.before in
-    let asked = at-loop.before.before.before.before.requires.1 in
-    (omega arith, λ used store reaches. rw add-zero (done_all (at-loop.loop.invariant.1 used (task_after asked.0 asked.1 store reaches)) (omega arith)))
+    let asked = c.requires.1 in
+    (omega arith, λ used store reaches. rw add-zero (done_all (c.loop-done.invariant.1 used (task_after asked.0 asked.1 store reaches)) (omega arith)))
 
 pub copy_some_after_spec : {M : Type 1} → statement M
 copy_some_after_spec =
@@ -159,14 +153,14 @@ copy_some_after_spec =
     same_length
     returns
     front_requires
-    (λ c. omega (arith, found c.before.before, there c.before.before))
-    (λ c. omega (arith, found c.before.before, there c.before.before))
-    (λ c. omega (arith, found c.before.before, there c.before.before))
-    (λ c. omega (arith, found c.before.before.before, there c.before.before.before))
+    (λ c. omega (arith, found c.before, there c.before))
+    (λ c. omega (arith, found c.before, there c.before))
+    (λ c. omega (arith, found c.before, there c.before))
+    (λ c. omega (arith, found c.before, there c.before))
     copy_run_up_requires
-    (λ c. omega (arith, found c.before.before.before.before.before.before.before))
+    (λ c. omega (arith, found c.before))
     past_requires
-    (λ c. omega (arith, found c.before.before.before.before.before.before.before.before.before))
+    (λ c. omega (arith, found c.before))
     loop_again
     same_length_2
     returns_2)

@@ -17,21 +17,20 @@ use Rattle.rope.specs.PartLaws.{left-shows, right-shows, parts_known, parts_next
 use Rattle.rope.proofs.equal_parts.Statement.{statement}
 use Rattle.rope.proofs.equal_parts.Tie as tie
 
-abbrev invariant_loop : tie.invariant_loop
+abbrev invariant_loop : tie.invariant-loop-done
 invariant_loop nodes known f g from n first₀ second₀ done₀ first second done =
     (done ≤ n) × (length first ≡ part) × (length second ≡ part)
     × ((names w : List ℕ) (over used : ℕ) → RopesKnown names w nodes over used known f g n
     → equal_from (values_in names w over) (nodes_in nodes used) f g n from ≡ equal_from (values_in names w over) (nodes_in nodes used) f g n done)
 
-abbrev decreases_loop : tie.decreases_loop
+abbrev decreases_loop : tie.decreases-loop-done
 decreases_loop nodes known f g from n first₀ second₀ done₀ first second done = n - done
 
 -- the next terms of each: how many
-taken : (c : tie.After-smaller invariant_loop decreases_loop)
-    → let at-loop = c.before.before in
-    let k = c.smaller.result in
-    (1 ≤ k) × (k ≤ part) × (at-loop.loop.done + k ≤ at-loop.before.before.before.args.n)
-taken c = (omega (arith, c.smaller.ensures), omega (arith, c.smaller.ensures), omega (arith, c.smaller.ensures, c.before.before.loop.invariant.0))
+taken : (c : tie.After-smaller-k invariant_loop decreases_loop)
+    → let k = c.smaller-k.result in
+    (1 ≤ k) × (k ≤ part) × (c.loop-done.done + k ≤ c.args.n)
+taken c = (omega (arith, c.smaller-k.ensures), omega (arith, c.smaller-k.ensures), omega (arith, c.smaller-k.ensures, c.loop-done.invariant.0))
 
 -- what is asked of the nodes and the numbers, in a store of the words
 abbrev Asked : tie.Start invariant_loop decreases_loop → List ℕ → List ℕ → ℕ → ℕ → Type 0
@@ -39,87 +38,85 @@ Asked start names w over used =
     RopesKnown names w start.args.nodes.now over used start.args.known.now start.args.f start.args.g start.args.n
 
 -- the places are those of terms with numbers
-known : (c : tie.After-read-places2 invariant_loop decreases_loop) {names w : List ℕ} {over used : ℕ}
-    → let first = c.before.before.before in
-    let start = first.before.before.before.before.before.before.before in
-    Asked start names w over used
-    → PlacesKnown names w over start.args.known.now first.read-places.new.1.1.1.1.0 c.read-places2.new.1.1.1.1.0 first.before.before.smaller.result
+known : (c : tie.After-read_places-in-loop-done invariant_loop decreases_loop) {names w : List ℕ} {over used : ℕ}
+    → let first = c in
+    let start = first.before in
+    Asked start.before.before.before.before.before.before.before.before names w over used
+    → PlacesKnown names w over start.args.known.now first.read_places.new.1.1.1.1.0 c.read_places-in-loop-done.new.1.1.1.1.0 first.smaller-k.result
 known c asked =
-    let first = c.before.before.before in
-    let chosen = first.before.before in
-    let inv = chosen.before.before.loop.invariant in
+    let first = c.before in
+    let chosen = first.before in
+    let inv = chosen.loop-done.invariant in
     let (some, few, fits) = taken chosen in
-    parts_known asked _ _ fits _ _ _ _ first.read-places.ensures c.read-places2.ensures (omega arith) (omega arith)
+    parts_known asked _ _ fits _ _ _ _ first.read_places.ensures c.read_places-in-loop-done.ensures (omega arith) (omega arith)
 
 -- the answer for them is that for the next terms
-next : (c : tie.After-equal-at invariant_loop decreases_loop) {b : Bool} → c.equal-at.result ≡ b → {names w : List ℕ} {over used : ℕ}
-    → let chosen = c.before.before.before.before.before.before.before.before.before in
-    let at-loop = chosen.before.before in
-    let start = at-loop.before.before.before in
+next : (c : tie.After-equal_at invariant_loop decreases_loop) {b : Bool} → c.equal_at.result ≡ b → {names w : List ℕ} {over used : ℕ}
+    → let chosen = c.before in
+    let at-loop = chosen.before in
+    let start = at-loop.before in
     let x = start.args in
-    Asked start names w over used
+    Asked start.before.before.before.before.before.before.before.before.before.before.before names w over used
     → equal_from (values_in names w over) (nodes_in x.nodes.now used) x.f x.g x.n x.from
-    ≡ b && equal_from (values_in names w over) (nodes_in x.nodes.now used) x.f x.g x.n (at-loop.loop.done + chosen.smaller.result)
+    ≡ b && equal_from (values_in names w over) (nodes_in x.nodes.now used) x.f x.g x.n (at-loop.loop-done.done + chosen.smaller-k.result)
 next c answer asked =
-    let second = c.before.before.before.before in
-    let first = second.before.before.before in
-    let chosen = first.before.before in
-    let inv = chosen.before.before.loop.invariant in
-    let (some, few, fits) = taken chosen in
+    let second = c.before in
+    let first = second.before in
+    let chosen = first.before in
+    let inv = chosen.loop-done.invariant in
+    let (some, few, fits) = taken chosen.before.before.before.before.before.before in
     inv.3 _ _ _ _ asked
-    ∙ parts_next asked _ _ fits _ _ _ _ first.read-places.ensures second.read-places2.ensures (omega arith) (omega arith) answer
-    (c.equal-at.ensures _ _ _ (known second asked))
+    ∙ parts_next asked _ _ fits _ _ _ _ first.read_places.ensures second.read_places-in-loop-done.ensures (omega arith) (omega arith) answer
+    (c.equal_at.ensures _ _ _ (known second asked))
 
-loop_holds : tie.Need-loop-init invariant_loop decreases_loop
+loop_holds : tie.Need-loop-done-init invariant_loop decreases_loop
 loop_holds c = (search rules, refl, refl, λ names w over used asked. refl)
 
-read_places_requires : tie.Need-read-places-requires invariant_loop decreases_loop
+read_places_requires : tie.Need-read_places-requires invariant_loop decreases_loop
 read_places_requires c κs =
     let chosen = c.before in
-    let at-loop = chosen.before.before in
-    let asked = at-loop.before.before.before.requires.1.4 in
+    let asked = chosen.requires.1.4 in
     let (some, few, fits) = taken chosen in
-    (left-shows asked _ _ fits, (few, omega (arith, at-loop.loop.invariant.1)))
+    (left-shows asked _ _ fits, (few, omega (arith, chosen.loop-done.invariant.1)))
 
-read_places_requires_2 : tie.Need-read-places-requires-2 invariant_loop decreases_loop
+read_places_requires_2 : tie.Need-read_places-requires-in-loop-done invariant_loop decreases_loop
 read_places_requires_2 c κs =
-    let chosen = c.before.before.before.before in
-    let at-loop = chosen.before.before in
-    let asked = at-loop.before.before.before.requires.1.4 in
-    let (some, few, fits) = taken chosen in
-    (right-shows asked _ _ fits, (few, omega (arith, at-loop.loop.invariant.2)))
+    let chosen = c.before in
+    let asked = chosen.requires.1.4 in
+    let (some, few, fits) = taken chosen.before.before.before in
+    (right-shows asked _ _ fits, (few, omega (arith, chosen.loop-done.invariant.2)))
 
-equal_at_requires : tie.Need-equal-at-requires invariant_loop decreases_loop
+equal_at_requires : tie.Need-equal_at-requires invariant_loop decreases_loop
 equal_at_requires c κs =
-    let second = c.before.before.before in
-    (_, _, _, known second second.before.before.before.before.before.before.before.before.before.before.requires.1.4)
+    let second = c.before in
+    (_, _, _, known second second.requires.1.4)
 
-returns : tie.Need-returns invariant_loop decreases_loop
-returns c names w over used asked = sym (next c.before (not-true _ c.if1.true) asked)
+returns : tie.Need-returns-then-not-equal_at invariant_loop decreases_loop
+returns c names w over used asked = sym (next c.before (not-true _ c.if-not-equal_at.true-raw) asked)
 
-add_done : tie.Need-overflow-add-done invariant_loop decreases_loop
+add_done : tie.Need-overflow_add-done invariant_loop decreases_loop
 add_done c =
-    let chosen = c.before.before.before.before.before.before.before.before.before.before in
-    omega (arith, taken chosen, chosen.before.before.before.before.before.ranges.n)
+    let chosen = c.before in
+    omega (arith, taken chosen.before.before.before.before.before.before.before.before.before, chosen.ranges.n)
 
-loop_less : tie.Need-loop-smaller invariant_loop decreases_loop
+loop_less : tie.Need-loop-done-smaller invariant_loop decreases_loop
 loop_less c = omega (arith, taken c.before.before.before.before.before.before.before.before.before.before)
 
-loop_again : tie.Need-loop-preserved invariant_loop decreases_loop
+loop_again : tie.Need-loop-done-preserved invariant_loop decreases_loop
 loop_again c =
     let compared = c.before in
-    let second = compared.before.before.before.before in
-    let first = second.before.before.before in
-    let chosen = first.before.before in
-    let inv = chosen.before.before.loop.invariant in (
-      (taken chosen).2,
-      first.read-places.ensures.1 ∙ inv.1,
-      second.read-places2.ensures.1 ∙ inv.2,
-      λ names w over used asked. next compared (not-false _ c.if1.false) asked,
+    let second = compared.before in
+    let first = second.before in
+    let chosen = first.before in
+    let inv = chosen.loop-done.invariant in (
+      (taken chosen.before.before.before.before.before.before).2,
+      first.read_places.ensures.1 ∙ inv.1,
+      second.read_places-in-loop-done.ensures.1 ∙ inv.2,
+      λ names w over used asked. next compared (not-false _ c.if-not-equal_at.false-raw) asked,
     )
 
-returns_2 : tie.Need-returns-2 invariant_loop decreases_loop
-returns_2 c names w over used asked = sym (c.before.loop.invariant.3 names w over used asked ∙ from_all _ _ _ _ _ c.before.loop.done (omega arith))
+returns_2 : tie.Need-returns invariant_loop decreases_loop
+returns_2 c names w over used asked = sym (c.loop-done.invariant.3 names w over used asked ∙ from_all _ _ _ _ _ c.loop-done.done (omega arith))
 
 pub equal_parts_spec : {M : Type 1} → statement M
 equal_parts_spec =

@@ -17,13 +17,13 @@ use Rattle.rope.specs.FrontLaws.{Fronts, Pair, ropes_short, fronts_start, fronts
 use Rattle.rope.proofs.equal_some.Statement.{statement}
 use Rattle.rope.proofs.equal_some.Tie as tie
 
-abbrev invariant_loop : tie.invariant_loop
+abbrev invariant_loop : tie.invariant-loop-done
 invariant_loop names terms nodes f g n budget f-stack₀ g-stack₀ a₀ b₀ left₀ done₀ f-stack g-stack a b left done =
     (a.depth ≤ most_fields) × (b.depth ≤ most_fields)
     × ((over used : ℕ) → Ropes names terms nodes over used f g n
     → Fronts (values_in names terms over) (nodes_in nodes used) f g n (rest_of a f-stack) (rest_of b g-stack) done)
 
-abbrev decreases_loop : tie.decreases_loop
+abbrev decreases_loop : tie.decreases-loop-done
 decreases_loop names terms nodes f g n budget f-stack₀ g-stack₀ a₀ b₀ left₀ done₀ f-stack g-stack a b left done = n - done
 
 -- what is asked of the terms and the nodes, in a store of the words
@@ -36,86 +36,80 @@ store : (start : tie.Start invariant_loop decreases_loop) {over used : ℕ} → 
 store start {over} asked = record { terms = over; few_terms = asked.few; store = asked.shows.store }
 
 -- the pieces are taken down to runs, as the fuel is not spent
-run : (c : tie.Else1 invariant_loop decreases_loop) {over used : ℕ}
-    → let first = c.before.before.before.before in
-    let at-loop = first.before.before.before in
-    let start = at-loop.before.before.before.before.before.before in
-    Asked start over used
-    → ToRun (nodes_in start.args.nodes.now used) (rest_of at-loop.loop.a at-loop.loop.f-stack) (rest_of first.to-run.result first.to-run.new.1.0)
+run : (c : tie.Else-smaller-eq0 invariant_loop decreases_loop) {over used : ℕ}
+    → let first = c.before in
+    let at-loop = first in
+    let start = at-loop.before in
+    Asked start.before.before.before.before.before.before.before.before.before.before over used
+    → ToRun (nodes_in start.args.nodes.now used) (rest_of at-loop.loop-done.a at-loop.loop-done.f-stack) (rest_of first.to_run-a.result first.to_run-a.new.1.0)
 run c asked =
-    let first = c.before.before.before.before in
-    let in-loop = first.before.before in
+    let first = c.before in
+    let in-loop = first.before in
     let at-loop = in-loop.before in
-    first.to-run.ensures.1 (omega (arith, c.before.smaller.ensures, c.if1.false)) _ (store at-loop.before.before.before.before.before.before asked)
-    ((at-loop.loop.invariant.2 _ _ asked).left.ready in-loop.loop-test.true)
+    first.to_run-a.ensures.1 (omega (arith, c.smaller.ensures, c.if-smaller-eq0.false)) _ (store at-loop.before asked)
+    ((at-loop.loop-done.invariant.2 _ _ asked).left.ready in-loop.loop-done-test.true)
 
-run_2 : (c : tie.Else1 invariant_loop decreases_loop) {over used : ℕ}
-    → let second = c.before.before in
-    let at-loop = second.before.before.before.before.before in
-    let start = at-loop.before.before.before.before.before.before in
-    Asked start over used
-    → ToRun (nodes_in start.args.nodes.now used) (rest_of at-loop.loop.b at-loop.loop.g-stack) (rest_of second.to-run2.result second.to-run2.new.1.0)
+run_2 : (c : tie.Else-smaller-eq0 invariant_loop decreases_loop) {over used : ℕ}
+    → let second = c.before in
+    let at-loop = second in
+    let start = at-loop.before in
+    Asked start.before.before.before.before.before.before.before.before.before.before over used
+    → ToRun (nodes_in start.args.nodes.now used) (rest_of at-loop.loop-done.b at-loop.loop-done.g-stack) (rest_of second.to_run-b.result second.to_run-b.new.1.0)
 run_2 c asked =
-    let second = c.before.before in
-    let in-loop = second.before.before.before.before in
+    let second = c.before in
+    let in-loop = second.before in
     let at-loop = in-loop.before in
-    second.to-run2.ensures.1 (omega (arith, c.before.smaller.ensures, c.if1.false)) _ (store at-loop.before.before.before.before.before.before asked)
-    ((at-loop.loop.invariant.2 _ _ asked).right.ready in-loop.loop-test.true)
+    second.to_run-b.ensures.1 (omega (arith, c.smaller.ensures, c.if-smaller-eq0.false)) _ (store at-loop.before asked)
+    ((at-loop.loop-done.invariant.2 _ _ asked).right.ready in-loop.loop-done-test.true)
 
 -- both pieces begin with a run
-both : (c : tie.Else1 invariant_loop decreases_loop) {over used : ℕ}
-    → let second = c.before.before in
-    let first = second.before.before in
-    let at-loop = first.before.before.before in
-    let start = at-loop.before.before.before.before.before.before in
+both : (c : tie.Else-smaller-eq0 invariant_loop decreases_loop) {over used : ℕ}
+    → let second = c.before in
+    let first = second in
+    let at-loop = first.before in
+    let start = at-loop.before in
     let x = start.args in
-    Asked start over used
+    Asked start.before.before.before.before.before.before.before.before.before over used
     → Fronts (values_in x.names.now x.terms.now over) (nodes_in x.nodes.now used) x.f x.g x.n
-    (rest_of first.to-run.result first.to-run.new.1.0) (rest_of second.to-run2.result second.to-run2.new.1.0) at-loop.loop.done
-both c asked = let at-loop = c.before.before.before.before.before.before.before in fronts_run (at-loop.loop.invariant.2 _ _ asked) (run c asked).goes (run_2 c asked).goes
+    (rest_of first.to_run-a.result first.to_run-a.new.1.0) (rest_of second.to_run-b.result second.to_run-b.new.1.0) at-loop.loop-done.done
+both c asked = fronts_run (c.loop-done.invariant.2 _ _ asked) (run c asked).goes (run_2 c asked).goes
 
 -- the two runs of a turn
-pair : (c : tie.After-smaller2 invariant_loop decreases_loop) {over used : ℕ}
+pair : (c : tie.After-smaller-k invariant_loop decreases_loop) {over used : ℕ}
     → let runs = c.before in
-    let second = runs.before.before.before.before in
-    let first = second.before.before in
-    let at-loop = first.before.before.before in
-    let start = at-loop.before.before.before.before.before.before in
+    let second = runs.before in
+    let first = second.before in
+    let at-loop = first.before in
+    let start = at-loop.before in
     let x = start.args in
-    Asked start over used
-    → Pair (values_in x.names.now x.terms.now over) (nodes_in x.nodes.now used) x.f x.g x.n at-loop.loop.done
-    first.to-run.result.left second.to-run2.result.left runs.before.front.result.start runs.front2.result.start c.smaller2.result
+    Asked start.before.before.before.before.before.before.before.before.before.before.before over used
+    → Pair (values_in x.names.now x.terms.now over) (nodes_in x.nodes.now used) x.f x.g x.n at-loop.loop-done.done
+    first.to_run-a.result.left second.to_run-b.result.left runs.front-r.result.start runs.front-s.result.start c.smaller-k.result
 pair c asked =
     let runs = c.before in
-    let fuelled = runs.before.before in
-    let in-loop = fuelled.before.before.before.before.before.before in
+    let fuelled = runs.before in
     let low = rw decode-length at (run fuelled asked).goes.ready.low in
     let low' = rw decode-length at (run_2 fuelled asked).goes.ready.low in
-    fronts_pair (both fuelled asked) in-loop.loop-test.true (run fuelled asked).begins (runs.before.front.ensures _ low) (run_2 fuelled asked).begins
-    (runs.front2.ensures _ low') c.smaller2.ensures
+    fronts_pair (both fuelled asked) fuelled.loop-done-test.true (run fuelled asked).begins (runs.front-r.ensures _ low) (run_2 fuelled asked).begins
+    (runs.front-s.ensures _ low') c.smaller-k.ensures
 
 -- the same in the store that is there
-pair_here : (c : tie.After-smaller2 invariant_loop decreases_loop)
-    → let runs = c.before in
-    let second = runs.before.before.before.before in
-    let first = second.before.before in
-    let at-loop = first.before.before.before in
-    let start = at-loop.before.before.before.before.before.before in
-    let x = start.args in
-    let over = start.requires.0 in
-    let used = start.requires.1 in
-    Pair (values_in x.names.now x.terms.now over) (nodes_in x.nodes.now used) x.f x.g x.n at-loop.loop.done
-    first.to-run.result.left second.to-run2.result.left runs.before.front.result.start runs.front2.result.start c.smaller2.result
-pair_here c = let at-loop = c.before.before.before.before.before.before.before.before.before.before in pair c at-loop.before.before.before.before.before.before.requires.2
+pair_here : (c : tie.After-smaller-k invariant_loop decreases_loop)
+    → let x = c.args in
+    let over = c.requires.0 in
+    let used = c.requires.1 in
+    Pair (values_in x.names.now x.terms.now over) (nodes_in x.nodes.now used) x.f x.g x.n c.loop-done.done
+    c.to_run-a.result.left c.to_run-b.result.left c.front-r.result.start c.front-s.result.start c.smaller-k.result
+pair_here c = pair c c.requires.2
 
 -- they lie among the terms
-lies : (c : tie.After-cut2 invariant_loop decreases_loop) {over used : ℕ}
-    → let in-loop = c.before.before.before.before.before.before.before.before.before.before.before in
-    let start = in-loop.before.before.before.before.before.before.before in
-    Asked start over used → RunsIn start.args.names.now start.args.terms.now (as_run c.before.cut.result) (as_run c.cut2.result) over
+lies : (c : tie.After-cut-in-loop-done invariant_loop decreases_loop) {over used : ℕ}
+    → let in-loop = c.before in
+    let start = in-loop.before in
+    Asked start.before.before.before.before.before.before.before.before.before.before.before.before.before.before.before.before over used → RunsIn start.args.names.now start.args.terms.now (as_run c.cut.result) (as_run c.cut-in-loop-done.result) over
 lies c asked =
-    let p = pair c.before.before asked in
-    rw (c.before.cut.ensures, c.cut2.ensures) (record {
+    let p = pair c.before asked in
+    rw (c.cut.ensures, c.cut-in-loop-done.ensures) (record {
       store = asked.terms;
       few = asked.few;
       first = rw (values_length, decode-length) at p.left.inside;
@@ -123,124 +117,114 @@ lies c asked =
     })
 
 -- what comparing them tells
-told : (c : tie.After-equal-runs-within invariant_loop decreases_loop) {over used : ℕ}
-    → let chosen = c.before.before.before in
-    let runs = chosen.before in
-    let at-loop = chosen.before.before.before.before.before.before.before.before.before.before in
-    let start = at-loop.before.before.before.before.before.before in
-    Asked start over used
-    → Tells at-loop.loop.left c.equal-runs-within.result
-    (spec_equal_runs start.args.names.now start.args.terms.now over runs.before.front.result.start chosen.smaller2.result runs.front2.result.start chosen.smaller2.result)
+told : (c : tie.After-equal_runs_within invariant_loop decreases_loop) {over used : ℕ}
+    → let chosen = c.before in
+    let at-loop = chosen.before in
+    let start = at-loop.before in
+    Asked start.before.before.before.before.before.before.before.before.before.before.before.before.before.before.before.before over used
+    → Tells at-loop.loop-done.left c.equal_runs_within.result
+    (spec_equal_runs start.args.names.now start.args.terms.now over chosen.front-r.result.start chosen.smaller-k.result chosen.front-s.result.start chosen.smaller-k.result)
 told c asked =
     let cuts = c.before in
-    rw (cuts.before.cut.ensures, cuts.cut2.ensures) at (c.equal-runs-within.ensures _ (lies cuts asked))
+    rw (cuts.cut.ensures, cuts.cut-in-loop-done.ensures) at (c.equal_runs_within.ensures _ (lies cuts asked))
 
-whole_requires : tie.Need-whole-requires invariant_loop decreases_loop
-whole_requires c κs = let start = c.before.before.before in ropes_short start.requires.2
+whole_requires : tie.Need-whole-a-requires invariant_loop decreases_loop
+whole_requires c κs = ropes_short c.requires.2
 
-whole_requires_2 : tie.Need-whole-requires-2 invariant_loop decreases_loop
-whole_requires_2 c κs = let start = c.before.before.before.before in ropes_short start.requires.2
+whole_requires_2 : tie.Need-whole-b-requires invariant_loop decreases_loop
+whole_requires_2 c κs = ropes_short c.requires.2
 
-loop_holds : tie.Need-loop-init invariant_loop decreases_loop
-loop_holds c = rw (c.before.whole.ensures, c.whole2.ensures) (omega arith, omega arith, λ over used asked. fronts_start _ _ _ _ _ _ _ _ asked.shows _ _)
+loop_holds : tie.Need-loop-done-init invariant_loop decreases_loop
+loop_holds c = rw (c.whole-a.ensures, c.whole-b.ensures) (omega arith, omega arith, λ over used asked. fronts_start _ _ _ _ _ _ _ _ asked.shows _ _)
 
-to_run_requires : tie.Need-to-run-requires invariant_loop decreases_loop
+to_run_requires : tie.Need-to_run-a-requires invariant_loop decreases_loop
 to_run_requires c κs =
     let in-loop = c.before in
     let at-loop = in-loop.before in
-    let inv = at-loop.loop.invariant in
-    let start = at-loop.before.before.before.before.before.before in
+    let inv = at-loop.loop-done.invariant in
+    let start = at-loop.before in
     let asked = start.requires.2 in
-    (record { used = _; store = store start asked; ready = (inv.2 _ _ asked).left.ready in-loop.loop-test.true }, inv.0)
+    (record { used = _; store = store start.before.before.before.before.before asked; ready = (inv.2 _ _ asked).left.ready in-loop.loop-done-test.true }, inv.0)
 
-to_run_requires_2 : tie.Need-to-run-requires-2 invariant_loop decreases_loop
+to_run_requires_2 : tie.Need-to_run-b-requires invariant_loop decreases_loop
 to_run_requires_2 c κs =
-    let in-loop = c.before.before.before in
+    let in-loop = c.before in
     let at-loop = in-loop.before in
-    let inv = at-loop.loop.invariant in
-    let start = at-loop.before.before.before.before.before.before in
+    let inv = at-loop.loop-done.invariant in
+    let start = at-loop.before in
     let asked = start.requires.2 in
-    (record { used = _; store = store start asked; ready = (inv.2 _ _ asked).right.ready in-loop.loop-test.true }, inv.1)
+    (record { used = _; store = store start.before.before.before.before.before.before.before asked; ready = (inv.2 _ _ asked).right.ready in-loop.loop-done-test.true }, inv.1)
 
-returns : tie.Need-returns invariant_loop decreases_loop
-returns c over used asked = let at-loop = c.before.before.before.before.before.before.before in fronts_some (at-loop.loop.invariant.2 over used asked)
+returns : tie.Need-returns-then-smaller-eq0 invariant_loop decreases_loop
+returns c over used asked = fronts_some (c.loop-done.invariant.2 over used asked)
 
-front_requires : tie.Need-front-requires invariant_loop decreases_loop
+front_requires : tie.Need-front-r-requires invariant_loop decreases_loop
 front_requires c κs =
-    let start = c.before.before.before.before.before.before.before.before.before.before.before.before.before in
+    let start = c.before in
     let asked = start.requires.2 in
-    record { used = _; store = store start asked; low = rw decode-length at (run c asked).goes.ready.low; begins = (run c asked).begins }
+    record { used = _; store = store start.before.before.before.before.before.before.before.before.before.before.before.before asked; low = rw decode-length at (run c asked).goes.ready.low; begins = (run c asked).begins }
 
-front_requires_2 : tie.Need-front-requires-2 invariant_loop decreases_loop
+front_requires_2 : tie.Need-front-s-requires invariant_loop decreases_loop
 front_requires_2 c κs =
     let fuelled = c.before in
-    let start = fuelled.before.before.before.before.before.before.before.before.before.before.before.before.before in
+    let start = fuelled.before in
     let asked = start.requires.2 in
-    record { used = _; store = store start asked; low = rw decode-length at (run_2 fuelled asked).goes.ready.low; begins = (run_2 fuelled asked).begins }
+    record { used = _; store = store start.before.before.before.before.before.before.before.before.before.before.before.before asked; low = rw decode-length at (run_2 fuelled asked).goes.ready.low; begins = (run_2 fuelled asked).begins }
 
-equal_runs_within_requires : tie.Need-equal-runs-within-requires invariant_loop decreases_loop
+equal_runs_within_requires : tie.Need-equal_runs_within-requires invariant_loop decreases_loop
 equal_runs_within_requires c κs =
-    let in-loop = c.before.before.before.before.before.before.before.before.before.before.before in
-    let start = in-loop.before.before.before.before.before.before.before in
-    (_, lies c start.requires.2)
+    (_, lies c c.requires.2)
 
-returns_2 : tie.Need-returns-2 invariant_loop decreases_loop
+returns_2 : tie.Need-returns-in-Different invariant_loop decreases_loop
 returns_2 c over used asked =
-    let compared = c.before.before in
-    let chosen = compared.before.before.before in
-    fronts_differ _ _ _ (pair chosen asked) (both chosen.before.before.before asked) (tells_different (told compared asked) c.enum_told.given.1).0
+    let compared = c.before in
+    let chosen = compared.before in
+    fronts_differ _ _ _ (pair chosen asked) (both chosen.before asked) (tells_different (told compared asked) c.in-Different.is).0
 
-returns_3 : tie.Need-returns-3 invariant_loop decreases_loop
+returns_3 : tie.Need-returns-in-Spent invariant_loop decreases_loop
 returns_3 c over used asked =
-    let in-loop = c.before.before.before.before.before.before.before.before.before.before.before.before.before.before in
-    let at-loop = in-loop.before in
-    fronts_some (at-loop.loop.invariant.2 over used asked)
+    fronts_some (c.loop-done.invariant.2 over used asked)
 
-add_done : tie.Need-overflow-add-done invariant_loop decreases_loop
+add_done : tie.Need-overflow_add-done invariant_loop decreases_loop
 add_done c =
-    let chosen = c.before.before.before.before.before.before in
-    let start = chosen.before.before.before.before.before.before.before.before.before.before.before.before.before.before.before.before in
-    omega (arith, start.ranges.n, (pair_here chosen).left.most)
+    let chosen = c.before in
+    omega (arith, chosen.ranges.n, (pair_here chosen).left.most)
 
-past_requires : tie.Need-past-requires invariant_loop decreases_loop
+past_requires : tie.Need-past-a-requires invariant_loop decreases_loop
 past_requires c κs =
-    let chosen = c.before.before.before.before.before.before.before in
-    let fuelled = chosen.before.before.before in
-    let first = fuelled.before.before.before.before in
-    let in-loop = first.before.before in
-    let asked = in-loop.before.before.before.before.before.before.before.requires.2 in
-    ((pair_here chosen).left.within, along_short (both fuelled asked).left in-loop.loop-test.true, first.to-run.ensures.0, (pair_here chosen).left.most)
+    let chosen = c.before in
+    let fuelled = chosen.before in
+    let asked = fuelled.requires.2 in
+    ((pair_here chosen).left.within, along_short (both fuelled asked).left fuelled.loop-done-test.true, fuelled.to_run-a.ensures.0, (pair_here chosen).left.most)
 
-past_requires_2 : tie.Need-past-requires-2 invariant_loop decreases_loop
+past_requires_2 : tie.Need-past-b-requires invariant_loop decreases_loop
 past_requires_2 c κs =
-    let chosen = c.before.before.before.before.before.before.before.before.before in
-    let fuelled = chosen.before.before.before in
-    let second = fuelled.before.before in
-    let in-loop = second.before.before.before.before in
-    let asked = in-loop.before.before.before.before.before.before.before.requires.2 in
-    ((pair_here chosen).right.within, along_short (both fuelled asked).right in-loop.loop-test.true, second.to-run2.ensures.0, (pair_here chosen).right.most)
+    let chosen = c.before in
+    let fuelled = chosen.before in
+    let asked = fuelled.requires.2 in
+    ((pair_here chosen).right.within, along_short (both fuelled asked).right fuelled.loop-done-test.true, fuelled.to_run-b.ensures.0, (pair_here chosen).right.most)
 
-loop_less : tie.Need-loop-smaller invariant_loop decreases_loop
-loop_less c = let p = pair_here c.before.before.before.before.before.before.before.before.before.before in omega (arith, p.left.some, p.left.most)
+loop_less : tie.Need-loop-done-smaller invariant_loop decreases_loop
+loop_less c = let p = pair_here c.before in omega (arith, p.left.some, p.left.most)
 
-loop_again : tie.Need-loop-preserved invariant_loop decreases_loop
+loop_again : tie.Need-loop-done-preserved invariant_loop decreases_loop
 loop_again c =
-    let past_first = c.before.before in
-    let alike = past_first.before.before.before in
-    let compared = alike.before.before in
-    let chosen = compared.before.before.before in
-    let fuelled = chosen.before.before.before in
-    let in-loop = fuelled.before.before.before.before.before.before in (
-      past_first.past.ensures.0,
-      c.past2.ensures.0,
+    let past_first = c.before in
+    let alike = past_first.before in
+    let compared = alike.before in
+    let chosen = compared.before in
+    let fuelled = chosen.before in
+    (
+      past_first.past-a.ensures.0,
+      c.past-b.ensures.0,
       λ over used asked.
           let p = pair chosen asked in
-          fronts_more _ _ _ p (both fuelled asked) (tells-equal (told compared asked) alike.rest.given.1).0 in-loop.loop-test.true
-          p.left.within p.right.within past_first.past.ensures.1 c.past2.ensures.1,
+          fronts_more _ _ _ p (both fuelled asked) (tells-equal (told compared asked) alike.in-Equal.is).0 fuelled.loop-done-test.true
+          p.left.within p.right.within past_first.past-a.ensures.1 c.past-b.ensures.1,
     )
 
-returns_4 : tie.Need-returns-4 invariant_loop decreases_loop
-returns_4 c over used asked = fronts_all (c.before.loop.invariant.2 over used asked) (omega arith)
+returns_4 : tie.Need-returns invariant_loop decreases_loop
+returns_4 c over used asked = fronts_all (c.loop-done.invariant.2 over used asked) (omega arith)
 
 pub equal_some_spec : {M : Type 1} → statement M
 equal_some_spec =

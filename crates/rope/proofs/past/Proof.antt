@@ -5,21 +5,16 @@ use Rattle.places.specs.RestLaws.{passed_within, passed-last, passed_next}
 use Rattle.rope.proofs.past.Statement.{statement}
 use Rattle.rope.proofs.past.Tie as tie
 
-returns : tie.Need-returns
-returns c = let more = c.before.before in (more.before.before.requires.2, passed_within _ _ _ more.if1.true)
+returns : tie.Need-returns-then-k-at
+returns c = (c.requires.2, passed_within _ _ _ c.if-k-at.true)
 
-returns_2 : tie.Need-returns-2
+returns_2 : tie.Need-returns-then-depth-eq0
 returns_2 c =
-    let used_up = c.before in
-    (omega arith, passed-last _ _ _ _ _ _ used_up.if1.false _ _ _ c.if2.true)
+    (omega arith, passed-last _ _ _ _ _ _ c.if-k-at.false _ _ _ c.if-depth-eq0.true)
 
-returns_3 : tie.Need-returns-3
+returns_3 : tie.Need-returns
 returns_3 c =
-    let first = c.before.before in
-    let waits = first.before.before in
-    let used_up = waits.before in
-    let start = used_up.before.before in
-    (omega (arith, start.requires.2), passed_next _ _ _ _ _ _ used_up.if1.false _ waits.if2.false first.word.ensures c.word2.ensures)
+    (omega (arith, c.requires.2), passed_next _ _ _ _ _ _ c.if-k-at.false _ c.if-depth-eq0.false c.word.ensures c.word-2.ensures)
 
 pub past_spec : {M : Type 1} → statement M
 past_spec =

@@ -12,149 +12,123 @@ use Rattle.rope.specs.PiecesLaws.{goes_here, goes_on, goes_small, goes_in, goes_
 use Rattle.rope.proofs.to_run.Statement.{statement}
 use Rattle.rope.proofs.to_run.Tie as tie
 
-abbrev invariant_loop : tie.invariant_loop
+abbrev invariant_loop : tie.invariant-loop-at
 invariant_loop nodes stack₀ at₀ stack at =
     (at.depth ≤ most_fields)
     × ((used : ℕ) → AnyStore nodes used → Ready (nodes_in nodes used) (rest_of at₀ stack₀) → Goes (nodes_in nodes used) (rest_of at₀ stack₀) (rest_of at stack))
 
-abbrev decreases_loop : tie.decreases_loop
+abbrev decreases_loop : tie.decreases-loop-at
 decreases_loop nodes stack₀ at₀ stack at = at.fuel
 
-loop_holds : tie.Need-loop-init invariant_loop decreases_loop
-loop_holds c = (c.before.requires.1, λ used store ready. record { ready = ready; same = λ o xs g. ([], append-nil _) })
+loop_holds : tie.Need-loop-at-init invariant_loop decreases_loop
+loop_holds c = (c.requires.1, λ used store ready. record { ready = ready; same = λ o xs g. ([], append-nil _) })
 
 -- what goes on from where the loop stands, in the store that is there
-here : (c : tie.At-loop invariant_loop decreases_loop)
-    → let start = c.before.before in
-    Goes (nodes_in start.args.nodes.now start.requires.0.used) (rest_of start.args.at start.args.stack.now) (rest_of c.loop.at c.loop.stack)
-here c = let asked = c.before.before.requires.0 in c.loop.invariant.1 _ asked.store asked.ready
+here : (c : tie.At-loop-at invariant_loop decreases_loop)
+    → Goes (nodes_in c.args.nodes.now c.requires.0.used) (rest_of c.args.at c.args.stack.now) (rest_of c.loop-at.at c.loop-at.stack)
+here c = let asked = c.requires.0 in c.loop-at.invariant.1 _ asked.store asked.ready
 
-get_node_requires : tie.Need-get-node-requires invariant_loop decreases_loop
+get_node_requires : tie.Need-get_node-n-requires invariant_loop decreases_loop
 get_node_requires c κs =
-    let at-loop = c.before.before.before in
-    let store = at-loop.before.before.requires.0.store in
-    omega (arith, store.store.fits, (goes_here _ _ store (here at-loop) refl).0)
+    let at-loop = c.before in
+    let store = at-loop.requires.0.store in
+    omega (arith, store.store.fits, (goes_here _ _ store (here at-loop.before.before) refl).0)
 
 -- ---- the fuel is spent ----
 
-returns : tie.Need-returns invariant_loop decreases_loop
-returns c = let at-loop = c.before.before in (at-loop.loop.invariant.0, λ some. absurd (omega (arith, c.if1.true)))
+returns : tie.Need-returns-then-at-eq0 invariant_loop decreases_loop
+returns c = (c.loop-at.invariant.0, λ some. absurd (omega (arith, c.if-at-eq0.true)))
 
 -- ---- the part is used up: on to the tail or right ----
 
-loop_again : tie.Need-loop-preserved invariant_loop decreases_loop
+loop_again : tie.Need-loop-at-preserved-then-n-at invariant_loop decreases_loop
 loop_again c =
-    let used_up = c.before.before in
-    let read = used_up.before.before.before in
-    let at-loop = read.before.before.before.before in
-    let inv = at-loop.loop.invariant in
-    (inv.0, λ used store ready. goes_on _ _ store (inv.1 used store ready) read.get-node.ensures used_up.if2.true)
+    let inv = c.loop-at.invariant in
+    (inv.0, λ used store ready. goes_on _ _ store (inv.1 used store ready) c.get_node-n.ensures c.if-n-at.true)
 
 -- ---- a run ----
 
-returns_2 : tie.Need-returns-2 invariant_loop decreases_loop
+returns_2 : tie.Need-returns-then-n-eq-CONS invariant_loop decreases_loop
 returns_2 c =
-    let inner = c.before.before in
-    let read = inner.before.before.before in
-    let inv = read.before.before.before.before.loop.invariant in (
+    let inv = c.loop-at.invariant in (
       inv.0,
       λ some used store ready.
           let goes = inv.1 used store ready in
-          record { goes = goes; begins = goes-front _ _ store goes read.get-node.ensures c.if3.true inner.if2.false },
+          record { goes = goes; begins = goes-front _ _ store goes c.get_node-n.ensures c.if-n-eq-CONS.true c.if-n-at.false },
     )
 
 -- ---- the piece lies in the left ----
 
-loop_again_2 : tie.Need-loop-preserved-2 invariant_loop decreases_loop
+loop_again_2 : tie.Need-loop-at-preserved-then-at-here invariant_loop decreases_loop
 loop_again_2 c =
-    let concat = c.before.before.before.before in
-    let inner = concat.before.before in
-    let read = inner.before.before.before in
-    let inv = read.before.before.before.before.loop.invariant in
-    (inv.0, λ used store ready. goes_in _ _ store (inv.1 used store ready) read.get-node.ensures concat.if3.false inner.if2.false c.if4.true)
+    let inv = c.loop-at.invariant in
+    (inv.0, λ used store ready. goes_in _ _ store (inv.1 used store ready) c.get_node-n.ensures c.if-n-eq-CONS.false c.if-n-at.false c.if-at-here.true)
 
 -- ---- the stack is full ----
 
-loop_again_3 : tie.Need-loop-preserved-3 invariant_loop decreases_loop
+loop_again_3 : tie.Need-loop-at-preserved-then-at-eq-MOST_FIELDS invariant_loop decreases_loop
 loop_again_3 c =
-    let at-loop = c.before.before.before.before.before.before.before.before.before.before.before.before.before.before.before in
-    (omega arith, λ used store ready. goes_cut (at-loop.loop.invariant.1 used store ready) (none_wait _))
+    (omega arith, λ used store ready. goes_cut (c.loop-at.invariant.1 used store ready) (none_wait _))
 
 -- ---- the piece goes on in the right, which waits ----
 
-mul_set_word : tie.Need-overflow-mul-set-word invariant_loop decreases_loop
+mul_set_word : tie.Need-overflow_mul-at invariant_loop decreases_loop
 mul_set_word c =
-    let at-loop = c.before.before.before.before.before.before.before.before.before.before.before.before.before.before.before.before.before in
-    omega (arith, at-loop.loop.invariant.0)
+    omega (arith, c.loop-at.invariant.0)
 
-set_word_requires : tie.Need-set-word-requires invariant_loop decreases_loop
+set_word_requires : tie.Need-set_word-requires invariant_loop decreases_loop
 set_word_requires c κs =
-    let has_room = c.before.before in
-    let concat = has_room.before.before.before.before.before.before in
-    let inner = concat.before.before in
-    let read = inner.before.before.before in
-    let at-loop = read.before.before.before.before in
-    let small = goes_small _ _ at-loop.before.before.requires.0.store (here at-loop) read.get-node.ensures concat.if3.false inner.if2.false in
-    (omega (arith, at-loop.loop.invariant.0, has_room.if5.false), omega (arith, small.1))
+    let has_room = c.before in
+    let concat = has_room.before in
+    let inner = concat.before in
+    let read = inner.before in
+    let at-loop = read.before in
+    let small = goes_small _ _ at-loop.requires.0.store (here at-loop.before.before.before.before.before.before.before.before.before.before.before.before) read.get_node-n.ensures concat.if-n-eq-CONS.false inner.if-n-at.false in
+    (omega (arith, at-loop.loop-at.invariant.0, has_room.if-at-eq-MOST_FIELDS.false), omega (arith, small.1))
 
 -- both words of the field fit on the stack
-fits : (c : tie.After-set-word invariant_loop decreases_loop)
-    → let at-loop = c.before.before.before.before.before.before.before.before.before.before.before.before.before.before.before.before.before.before in
-    at-loop.loop.at.depth * 2 + 1 < length at-loop.loop.stack
+fits : (c : tie.After-set_word invariant_loop decreases_loop)
+    → c.loop-at.at.depth * 2 + 1 < length c.loop-at.stack
 fits c =
-    let has_room = c.before.before.before in
-    omega (arith, has_room.before.before.before.before.before.before.before.before.before.before.before.before.before.before.before.loop.invariant.0, has_room.if5.false)
+    omega (arith, c.loop-at.invariant.0, c.if-at-eq-MOST_FIELDS.false)
 
-mul_set_word_2 : tie.Need-overflow-mul-set-word-2 invariant_loop decreases_loop
+mul_set_word_2 : tie.Need-overflow_mul-at-in-loop-at invariant_loop decreases_loop
 mul_set_word_2 c =
-    let pushed-one = c.before.before.before in
-    let at-loop = pushed-one.before.before.before.before.before.before.before.before.before.before.before.before.before.before.before.before.before in
-    omega (arith, at-loop.loop.invariant.0)
+    omega (arith, c.loop-at.invariant.0)
 
-add_set_word : tie.Need-overflow-add-set-word invariant_loop decreases_loop
+add_set_word : tie.Need-overflow_add-at invariant_loop decreases_loop
 add_set_word c =
-    let pushed-one = c.before.before.before in
-    let at-loop = pushed-one.before.before.before.before.before.before.before.before.before.before.before.before.before.before.before.before.before in
-    omega (arith, at-loop.loop.invariant.0)
+    omega (arith, c.loop-at.invariant.0)
 
-sub_set_word : tie.Need-overflow-sub-set-word invariant_loop decreases_loop
-sub_set_word c = let longer = c.before.before.before.before.before.before.before.before in omega (arith, longer.if4.false)
+sub_set_word : tie.Need-overflow_sub-at-in-loop-at invariant_loop decreases_loop
+sub_set_word c = omega (arith, c.if-at-here.false)
 
-set_word_requires_2 : tie.Need-set-word-requires-2 invariant_loop decreases_loop
+set_word_requires_2 : tie.Need-set_word-requires-in-loop-at invariant_loop decreases_loop
 set_word_requires_2 c κs =
-    let pushed-one = c.before.before.before in
-    let has_room = pushed-one.before.before.before in
-    let read = has_room.before.before.before.before.before.before.before.before.before.before.before in
-    let at-loop = read.before.before.before.before in (
-      rw (pushed-one.set_word.ensures, length-set) (omega (arith, at-loop.loop.invariant.0, has_room.if5.false)),
-      omega (arith, (goes_here _ _ at-loop.before.before.requires.0.store (here at-loop) read.get-node.ensures).2),
+    let pushed-one = c.before in
+    let has_room = pushed-one.before in
+    let read = has_room.before in
+    let at-loop = read.before in (
+      rw (pushed-one.set_word.ensures, length-set) (omega (arith, at-loop.loop-at.invariant.0, has_room.if-at-eq-MOST_FIELDS.false)),
+      omega (arith, (goes_here _ _ at-loop.requires.0.store (here at-loop.before.before.before.before.before.before.before.before.before.before.before.before.before.before.before.before.before) read.get_node-n.ensures).2),
     )
 
-add_at : tie.Need-overflow-add-at invariant_loop decreases_loop
+add_at : tie.Need-overflow_add-at-in-loop-at invariant_loop decreases_loop
 add_at c =
-    let has_room = c.before.before.before.before.before.before.before.before in
-    let at-loop = has_room.before.before.before.before.before.before.before.before.before.before.before.before.before.before.before in
-    omega (arith, at-loop.loop.invariant.0)
+    omega (arith, c.loop-at.invariant.0)
 
-loop_less_4 : tie.Need-loop-smaller-4 invariant_loop decreases_loop
+loop_less_4 : tie.Need-loop-at-smaller invariant_loop decreases_loop
 loop_less_4 c =
-    let has_room = c.before.before.before.before.before.before.before.before in
-    let has-fuel = has_room.before.before.before.before.before.before.before.before.before.before.before.before.before in
-    omega (arith, has-fuel.if1.false)
+    omega (arith, c.if-at-eq0.false)
 
-loop_again_4 : tie.Need-loop-preserved-4 invariant_loop decreases_loop
+loop_again_4 : tie.Need-loop-at-preserved invariant_loop decreases_loop
 loop_again_4 c =
     let pushed-two = c.before in
-    let pushed-one = pushed-two.before.before.before.before in
-    let has_room = pushed-one.before.before.before in
-    let longer = has_room.before.before in
-    let concat = longer.before.before.before.before in
-    let inner = concat.before.before in
-    let read = inner.before.before.before in
-    let inv = read.before.before.before.before.loop.invariant in (
-      omega (arith, inv.0, has_room.if5.false),
-      λ used store ready. goes_split _ _ store (inv.1 used store ready) read.get-node.ensures concat.if3.false inner.if2.false longer.if4.false
-          (pushed _ _ _ _ _ _ (fits pushed-one) pushed-one.set_word.ensures pushed-two.set-word2.ensures),
+    let pushed-one = pushed-two.before in
+    let inv = pushed-one.loop-at.invariant in (
+      omega (arith, inv.0, pushed-one.if-at-eq-MOST_FIELDS.false),
+      λ used store ready. goes_split _ _ store (inv.1 used store ready) pushed-one.get_node-n.ensures pushed-one.if-n-eq-CONS.false pushed-one.if-n-at.false pushed-one.if-at-here.false
+          (pushed _ _ _ _ _ _ (fits pushed-one.before.before.before) pushed-one.set_word.ensures pushed-two.set_word-in-loop-at.ensures),
     )
 
 pub to_run_spec : {M : Type 1} → statement M

@@ -4,11 +4,11 @@ use Rattle.steps.specs.StepLaws.{ends_past, ends_record}
 use Rattle.steps.proofs.ends_at.Statement.{statement}
 use Rattle.steps.proofs.ends_at.Tie as tie
 
-returns : tie.Need-returns
-returns c names numbers = ends_past _ _ names numbers c.if1.true
+returns : tie.Need-returns-then-pattern-p
+returns c names numbers = ends_past _ _ names numbers c.if-pattern-p.true
 
-returns_2 : tie.Need-returns-2
-returns_2 c names numbers = ends_record _ _ names numbers c.before.before.if1.false _ c.before.get-item.ensures
+returns_2 : tie.Need-returns
+returns_2 c names numbers = ends_record _ _ names numbers c.if-pattern-p.false _ c.get_item-t.ensures
 
 pub ends_at_spec : {M : Type 1} → statement M
 ends_at_spec = tie.close (tie.spec returns (λ c κs. search rules) returns_2)

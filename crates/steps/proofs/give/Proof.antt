@@ -11,12 +11,9 @@ use Rattle.steps.proofs.give.Tie as tie
 
 returns : tie.Need-returns
 returns c =
-    let at-set-word2 = c.before.before.before in
-    let at-set-word = at-set-word2.before.before.before.before in
-    let at-start = at-set-word.before.before.before in
-    let a = at-start.args in
-    let e = at-set-word2.set-word2.ensures ∙ ap (λ l. set l (2 * a.s.bound + 1) a.k) at-set-word.set_word.ensures in
-    (refl, ap (entries_in (a.s.bound + 1)) e ∙ entries_more a.binds.now a.s.bound a.s.start a.k (omega (arith, at-start.requires.2, at-start.requires.3)))
+    let a = c.args in
+    let e = c.set_word-2.ensures ∙ ap (λ l. set l (2 * a.s.bound + 1) a.k) c.set_word.ensures in
+    (refl, ap (entries_in (a.s.bound + 1)) e ∙ entries_more a.binds.now a.s.bound a.s.start a.k (omega (arith, c.requires.2, c.requires.3)))
 
 pub give_spec : {M : Type 1} → statement M
 give_spec =

@@ -4,7 +4,7 @@ use borrow.Author.Rules.{rules}
 use Rattle.steps.proofs.put_back.Statement.{statement}
 use Rattle.steps.proofs.put_back.Tie as tie
 
-slice_write_levels_2 : tie.Need-slice-write-levels-2
+slice_write_levels_2 : tie.Need-bounds-levels-d-2
 slice_write_levels_2 c = rw length-set (search rules)
 
 returns : tie.Need-returns

@@ -6,16 +6,14 @@ use borrow.Author.Rules.{rules}
 use Rattle.steps.proofs.turn_close.Statement.{statement}
 use Rattle.steps.proofs.turn_close.Tie as tie
 
-returns : tie.Need-returns
+returns : tie.Need-returns-then-s-ne0
 returns c names terms used last bd inside =
-    stopped _ _ _ bd c.stop.ensures ∙ close_left _ _ _ last _ _ _ _ _ (stack_less _ _ c.before.before.before.before.requires.0 refl refl) inside c.before.if1.true
+    stopped _ _ _ bd c.stop.ensures ∙ close_left _ _ _ last _ _ _ _ _ (stack_less _ _ c.requires.0 refl refl) inside c.if-s-ne0.true
 
-returns_2 : tie.Need-returns-2
+returns_2 : tie.Need-returns
 returns_2 c names terms used last bd inside =
-    let at-run = c.before.before in
-    let at_ended = at-run.before.before in
     went _ _ _ bd c.next.ensures refl refl
-    ∙ close_ended _ _ _ last _ _ _ _ _ (stack_less_run _ _ at_ended.before.before.before.requires.0 at-run.get-run.ensures) at_ended.if1.false
+    ∙ close_ended _ _ _ last _ _ _ _ _ (stack_less_run _ _ c.requires.0 c.get_run-around.ensures) c.if-s-ne0.false
 
 pub turn_close_spec : {M : Type 1} → statement M
 turn_close_spec =

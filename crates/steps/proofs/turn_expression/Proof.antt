@@ -10,75 +10,56 @@ use borrow.Author.Rules.{rules}
 use Rattle.steps.proofs.turn_expression.Statement.{statement}
 use Rattle.steps.proofs.turn_expression.Tie as tie
 
-returns : tie.Need-returns
+returns : tie.Need-returns-then-last
 returns c =
-    let at_give = c.before.before in
-    let at-if2 = at_give.before.before in
-    let at-if1 = at-if2.before in
-    let at-start = at-if1.before.before.before.before.before.before in
-    let a = at-start.requires in
-    let g = at_give.give.ensures in (
-      λ lv. gave _ _ _ lv _ c.next.ensures _ _ g.0 g.1 ∙ many_last _ _ _ _ _ _ _ a.0.0.inside at-if2.if2.true (rw decode-length at-if1.if1.true),
+    let a = c.requires in
+    let g = c.give.ensures in (
+      λ lv. gave _ _ _ lv _ c.next.ensures _ _ g.0 g.1 ∙ many_last _ _ _ _ _ _ _ a.0.0.inside c.if-last.true (rw decode-length c.if-s-x.true),
       entries_less _ _ _ _ g.1,
       a.0.2,
     )
 
-returns_2 : tie.Need-returns-2
+returns_2 : tie.Need-returns-then-s-x
 unfolding turn_as
 returns_2 c =
-    let a = c.before.before.before.before.before.before.before.requires in
-    (λ lv. many_split _ _ _ _ _ _ _ a.0.0.inside c.if2.false (rw decode-length c.before.if1.true), refl, a.0.2)
+    let a = c.requires in
+    (λ lv. many_split _ _ _ _ _ _ _ a.0.0.inside c.if-last.false (rw decode-length c.if-s-x.true), refl, a.0.2)
 
-returns_3 : tie.Need-returns-3
+returns_3 : tie.Need-returns-then-s-e
 returns_3 c =
-    let at_entry_lem = c.before.before.before.before in
-    let at-if1 = at_entry_lem.before.before in
-    let at-start = at-if1.before.before.before.before.before.before in
-    let a = at-start.requires in
-    let e = at_entry_lem.entry.ensures _ at-if1.if1.false in (
+    let a = c.requires in
+    let e = c.entry-e.ensures _ c.if-s-x.false in (
       λ lv. stopped _ _ lv _ c.stop.ensures
-          ∙ many_long _ _ _ _ _ _ _ a.0.0.inside _ _ (rw decode-length at-if1.if1.false) e (entry_in _ _ _ _ a.0.1 at-if1.if1.false e) c.before.if3.true,
+          ∙ many_long _ _ _ _ _ _ _ a.0.0.inside _ _ (rw decode-length c.if-s-x.false) e (entry_in _ _ _ _ a.0.1 c.if-s-x.false e) c.if-s-e.true,
       refl,
       a.0.2,
     )
 
-equal_runs_requires : tie.Need-equal-runs-requires
+equal_runs_requires : tie.Need-equal_runs-requires
 equal_runs_requires c κs =
-    let at_entry_lem = c.before.before.before.before in
-    let at-if1 = at_entry_lem.before.before in
-    let at-start = at-if1.before.before.before.before.before.before in
-    let a = at-start.requires in
-    ((a.0.0.store, a.0.0.few), ((entry_in _ _ _ _ a.0.1 at-if1.if1.false (at_entry_lem.entry.ensures _ at-if1.if1.false), omega (arith, a.0.0.inside)), a.0.2))
+    let a = c.requires in
+    ((a.0.0.store, a.0.0.few), ((entry_in _ _ _ _ a.0.1 c.if-s-x.false (c.entry-e.ensures _ c.if-s-x.false), omega (arith, a.0.0.inside)), a.0.2))
 
-returns_4 : tie.Need-returns-4
+returns_4 : tie.Need-returns-then-not-equal_runs
 returns_4 c =
-    let at-if3 = c.before.before.before.before.before.before in
-    let at_entry_lem = at-if3.before.before.before in
-    let at-if1 = at_entry_lem.before.before in
-    let at-start = at-if1.before.before.before.before.before.before in
-    let a = at-start.requires in
-    let e = at_entry_lem.entry.ensures _ at-if1.if1.false in (
-      λ lv. stopped _ _ lv _ c.stop2.ensures
-          ∙ many_differs _ _ _ _ _ _ _ a.0.0.inside _ _ (rw decode-length at-if1.if1.false) e (entry_in _ _ _ _ a.0.1 at-if1.if1.false e) at-if3.if3.false
-          c.before.before.before.before.equal-runs.ensures.0 (not-true _ c.before.if4.true),
+    let a = c.requires in
+    let e = c.entry-e.ensures _ c.if-s-x.false in (
+      λ lv. stopped _ _ lv _ c.stop-then-not-equal_runs.ensures
+          ∙ many_differs _ _ _ _ _ _ _ a.0.0.inside _ _ (rw decode-length c.if-s-x.false) e (entry_in _ _ _ _ a.0.1 c.if-s-x.false e) c.if-s-e.false
+          c.equal_runs.ensures.0 (not-true _ c.if-not-equal_runs.true-raw),
       refl,
-      c.before.before.before.before.equal-runs.ensures.1,
+      c.equal_runs.ensures.1,
     )
 
-returns_5 : tie.Need-returns-5
+returns_5 : tie.Need-returns
 returns_5 c =
-    let at-equal-runs = c.before.before.before.before.before in
-    let at-if3 = at-equal-runs.before.before in
-    let at_entry_lem = at-if3.before.before.before in
-    let at-if1 = at_entry_lem.before.before in
-    let at-start = at-if1.before.before.before.before.before.before in
-    let a = at-start.requires in
-    let e = at_entry_lem.entry.ensures _ at-if1.if1.false in (
-      λ lv. passed _ _ _ lv _ c.next2.ensures _ c.before.pass.ensures
-          ∙ many_equals _ _ _ _ _ _ _ a.0.0.inside _ _ (rw decode-length at-if1.if1.false) e (entry_in _ _ _ _ a.0.1 at-if1.if1.false e) at-if3.if3.false
-          at-equal-runs.equal-runs.ensures.0 (not-false _ c.before.before.if4.false),
+    let a = c.requires in
+    let e = c.entry-e.ensures _ c.if-s-x.false in (
+      λ lv. passed _ _ _ lv _ c.next-2.ensures _ c.pass.ensures
+          ∙ many_equals _ _ _ _ _ _ _ a.0.0.inside _ _ (rw decode-length c.if-s-x.false) e (entry_in _ _ _ _ a.0.1 c.if-s-x.false e) c.if-s-e.false
+          c.equal_runs.ensures.0 (not-false _ c.if-not-equal_runs.false-raw),
       refl,
-      at-equal-runs.equal-runs.ensures.1,
+      c.equal_runs.ensures.1,
     )
 
 pub turn_expression_spec : {M : Type 1} → statement M

@@ -11,6 +11,7 @@ use Rattle.pattern.specs.Apart.{none_repeats, one_repeats, given_up, NameTables,
 use Rattle.pattern.specs.NameLaws.{binding_text}
 use Rattle.pattern.specs.ApartLaws.{told_yes, told_no, bucket_read, bucket_room, tables_passed, tables_entered, apart_next}
 use Rattle.pattern.proofs.apart.first_apart_with.Statement.{statement}
+use Rattle.pattern.proofs.apart.first_apart_with.Lts.{then-k-lt-LIMIT, else-k-lt-LIMIT, then-not-way+else-k-cost, else-not-way}
 use Rattle.pattern.proofs.apart.first_apart_with.Tie as tie
 
 abbrev invariant_loop : tie.invariant-loop-k
@@ -75,10 +76,15 @@ loop_again c =
     let key = bucket_read _ _ _ _ c.get_binding-b.ensures c.bucket_of-bucket.ensures in
     let new = told_no c.name_entered-looked.ensures.1 c.if-looked.false in (
       search rules,
-      ⊎_elim (λ w. rw (w.8 ∙ w.3.ensures.0, w.9 ∙ w.3.ensures.1) (tables_entered was.1 key w.0.taken))
-          (λ w. rw (w.1, w.2) (tables_passed was.1 w.0.left)) c.if-k-lt-LIMIT.branch,
+      elim c.if-k-lt-LIMIT.branch [
+        then-k-lt-LIMIT w ↦ rw (w.heads-is ∙ w.enter.ensures.0, w.earlier-is ∙ w.enter.ensures.1) (tables_entered was.1 key w.if-k-lt-LIMIT.true)
+        | else-k-lt-LIMIT w ↦ rw (w.heads-is, w.earlier-is) (tables_passed was.1 w.if-k-lt-LIMIT.false)
+      ],
       apart_next _ _ was.2 new,
-      ⊎_elim (λ w. omega (arith, w.2.left, w.3)) (λ w. omega (arith, w.1, was.3)) c.if-not-way.branch,
+      elim c.if-not-way.branch [
+        then-not-way+else-k-cost w ↦ omega (arith, w.if-k-cost.false, w.cost-is)
+        | else-not-way w ↦ omega (arith, w.cost-is, was.3)
+      ],
     )
 
 same_length_5 : tie.Need-shape_of-heads invariant_loop decreases_loop

@@ -8,47 +8,39 @@ use Rattle.rope.specs.AtLaws.{Put, put_none, put-length, put_next, put_all}
 use Rattle.rope.proofs.records.copy_places.Statement.{statement}
 use Rattle.rope.proofs.records.copy_places.Tie as tie
 
-abbrev invariant_loop : tie.invariant_loop
+abbrev invariant_loop : tie.invariant-loop-i
 invariant_loop terms list k work₀ to i₀ work i = Put terms work₀ list to k work i
 
-abbrev decreases_loop : tie.decreases_loop
+abbrev decreases_loop : tie.decreases-loop-i
 decreases_loop terms list k work₀ to i₀ work i = k - i
 
 -- the term at the place that is read lies in the slice
 there : (c : tie.After-word invariant_loop decreases_loop)
-    → let start = c.before.before.before.before.before.before.before in
-    Lies term_layout start.args.terms.now (c.word.result + 1)
+    → Lies term_layout c.args.terms.now (c.word.result + 1)
 there c =
-    let in-loop = c.before.before.before in
-    let start = in-loop.before.before.before.before in
-    rw c.word.ensures (start.requires.0.1 _ in-loop.loop-test.true)
+    rw c.word.ensures (c.requires.0.1 _ c.loop-i-test.true)
 
-copy_words_requires : tie.Need-copy-words-requires invariant_loop decreases_loop
+copy_words_requires : tie.Need-copy_words-requires invariant_loop decreases_loop
 copy_words_requires c κs =
-    let at-loop = c.before.before.before.before in
-    let asked = at-loop.before.before.before.requires in
-    (omega (arith, there c), omega (arith, put-length at-loop.loop.invariant asked.0.0 asked.1))
+    let asked = c.requires in
+    (omega (arith, there c), omega (arith, put-length c.loop-i.invariant asked.0.0 asked.1))
 
-loop_again : tie.Need-loop-preserved invariant_loop decreases_loop
+loop_again : tie.Need-loop-i-preserved invariant_loop decreases_loop
 loop_again c =
-    let copied = c.before.before in
+    let copied = c.before in
     let read = copied.before in
-    let in-loop = read.before.before.before in
-    let at-loop = in-loop.before in
-    let asked = at-loop.before.before.before.requires in
-    put_next at-loop.loop.invariant asked.0.0 asked.1 in-loop.loop-test.true _ _ read.word.ensures (there read) refl copied.copy-words.ensures
+    let asked = read.requires in
+    put_next read.loop-i.invariant asked.0.0 asked.1 read.loop-i-test.true _ _ read.word.ensures (there read.before) refl copied.copy_words.ensures
 
-same_length : tie.Need-same-length invariant_loop decreases_loop
+same_length : tie.Need-shape_of-work invariant_loop decreases_loop
 same_length c =
-    let at-loop = c.before in
-    let asked = at-loop.before.before.before.requires in
-    put-length at-loop.loop.invariant asked.0.0 asked.1
+    let asked = c.requires in
+    put-length c.loop-i.invariant asked.0.0 asked.1
 
 returns : tie.Need-returns invariant_loop decreases_loop
 returns c =
-    let at-loop = c.before in
-    let asked = at-loop.before.before.before.requires in
-    put_all at-loop.loop.invariant asked.0.0 asked.1 (omega arith)
+    let asked = c.requires in
+    put_all c.loop-i.invariant asked.0.0 asked.1 (omega arith)
 
 pub copy_places_spec : {M : Type 1} → statement M
 copy_places_spec =

@@ -3,10 +3,9 @@ use borrow.Author.Rules.{rules}
 use Rattle.rope.proofs.records.copy_run_up.Statement.{statement}
 use Rattle.rope.proofs.records.copy_run_up.Tie as tie
 
-returns : tie.Need-returns
+returns : tie.Need-returns-then-n-eq-TERM_WIDTH
 returns c =
-    let copied = c.before.before in
-    rw copied.before.before.if1.true copied.copy-up.ensures
+    rw c.if-n-eq-TERM_WIDTH.true c.copy_up.ensures
 
 pub copy_run_up_spec : {M : Type 1} → statement M
 copy_run_up_spec =

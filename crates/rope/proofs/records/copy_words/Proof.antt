@@ -5,14 +5,14 @@ use Rattle.places.specs.CopyLaws.{Copied, copied_none, copied_next, copied_lengt
 use Rattle.rope.proofs.records.copy_words.Statement.{statement}
 use Rattle.rope.proofs.records.copy_words.Tie as tie
 
-abbrev invariant_loop : tie.invariant_loop
+abbrev invariant_loop : tie.invariant-loop-i
 invariant_loop source target₀ from to n i₀ target i = Copied source target₀ from to n target i
 
-abbrev decreases_loop : tie.decreases_loop
+abbrev decreases_loop : tie.decreases-loop-i
 decreases_loop source target₀ from to n i₀ target i = n - i
 
-loop_again : tie.Need-loop-preserved invariant_loop decreases_loop
-loop_again c = let in-loop = c.before in copied_next in-loop.before.loop.invariant in-loop.before.before.requires.0 in-loop.loop-test.true
+loop_again : tie.Need-loop-i-preserved invariant_loop decreases_loop
+loop_again c = copied_next c.loop-i.invariant c.requires.0 c.loop-i-test.true
 
 pub copy_words_spec : {M : Type 1} → statement M
 copy_words_spec =
@@ -26,9 +26,9 @@ copy_words_spec =
     (λ c. omega arith)
     (λ c. omega arith)
     (λ c. omega arith)
-    (λ c. omega (arith, copied_length c.before.before.loop.invariant))
+    (λ c. omega (arith, copied_length c.loop-i.invariant))
     (λ c. omega arith)
     (λ c. omega arith)
     loop_again
-    (λ c. copied_length c.before.loop.invariant)
-    (λ c. copied_all c.before.loop.invariant (omega arith)))
+    (λ c. copied_length c.loop-i.invariant)
+    (λ c. copied_all c.loop-i.invariant (omega arith)))
