@@ -4,7 +4,7 @@ use mathlib.Core.List.{[]}
 use borrow.Author.Rules.{rules}
 use borrow.Author.Tests.{not-true, not-false}
 use native.Mathlib.Omega.{arith}
-use Rattle.term_spec.specs.BoolLaws.{true-T}
+use Rattle.term_spec.proofs.BoolLaws.{true-T}
 use Rattle.view_spec.specs.Node.{empty_field}
 use Rattle.view.specs.Check.{store_of}
 use Rattle.listing.specs.Match.{request_of}
