@@ -33,7 +33,7 @@ returns_3 c =
 settle_requires : tie.Need-settle-requires
 settle_requires c κs =
     let y = within_8 _ _ _ _ c.refusal-number.ensures c.if-number-ne0.false in
-    ((y.values.fits, y.terms-1), record { used = _; store = y.store; reaches = record { low = y.low; fits = y.within } })
+    ((y.values.fits, y.terms), record { used = _; store = y.store; reaches = record { low = y.low; fits = y.within } })
 
 walk_from_requires : tie.Need-walk_from-tally-requires
 unfolding settled_of
