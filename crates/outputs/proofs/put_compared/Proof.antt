@@ -5,17 +5,17 @@ use Rattle.outputs.specs.Outputs.{compared_out}
 use Rattle.outputs.proofs.put_compared.Statement.{statement}
 use Rattle.outputs.proofs.put_compared.Tie as tie
 
-returns : tie.Need-returns
+returns : tie.Need-returns-in-Equal
 unfolding answer_of compared_out
-returns c = rw c.enum_told.given.1
+returns c = rw c.in-Equal.is
 
-returns_2 : tie.Need-returns-2
+returns_2 : tie.Need-returns-in-Different
 unfolding answer_of compared_out
-returns_2 c = rw c.enum-told2.given.1
+returns_2 c = rw c.in-Different.is
 
-returns_3 : tie.Need-returns-3
+returns_3 : tie.Need-returns-in-Refused
 unfolding answer_of compared_out
-returns_3 c = rw c.before.c.given.1
+returns_3 c = rw c.in-Refused.is
 
 pub put_compared_spec : {M : Type 1} → statement M
 put_compared_spec =

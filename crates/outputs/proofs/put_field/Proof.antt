@@ -6,13 +6,13 @@ use Rattle.outputs.specs.Outputs.{values_of, or_old, field_out}
 use Rattle.outputs.proofs.put_field.Statement.{statement}
 use Rattle.outputs.proofs.put_field.Tie as tie
 
-returns : tie.Need-returns
+returns : tie.Need-returns-in-Built
 unfolding answer_of field_out answer_number values_of or_old
-returns c = rw c.before.a.given.1
+returns c = rw c.in-Built.is
 
-returns_2 : tie.Need-returns-2
+returns_2 : tie.Need-returns-in-Refused
 unfolding answer_of field_out answer_number values_of or_old
-returns_2 c = rw c.before.a2.given.1
+returns_2 c = rw c.in-Refused.is
 
 pub put_field_spec : {M : Type 1} → statement M
 put_field_spec = tie.close (tie.spec (λ c. search rules) (λ c. search rules) returns returns_2)

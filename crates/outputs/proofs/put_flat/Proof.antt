@@ -6,17 +6,17 @@ use Rattle.outputs.specs.Outputs.{values_of, or_old, flat_out}
 use Rattle.outputs.proofs.put_flat.Statement.{statement}
 use Rattle.outputs.proofs.put_flat.Tie as tie
 
-returns : tie.Need-returns
+returns : tie.Need-returns-in-InStore
 unfolding flat_of flat_out answer_number values_of or_old
-returns c = rw c.before.f.given.1
+returns c = rw c.in-InStore.is
 
-returns_2 : tie.Need-returns-2
+returns_2 : tie.Need-returns-in-InWork
 unfolding flat_of flat_out answer_number values_of or_old
-returns_2 c = rw c.before.f2.given.1
+returns_2 c = rw c.in-InWork.is
 
-returns_3 : tie.Need-returns-3
+returns_3 : tie.Need-returns-in-Refused
 unfolding flat_of flat_out answer_number values_of or_old
-returns_3 c = rw c.before.f3.given.1
+returns_3 c = rw c.in-Refused.is
 
 pub put_flat_spec : {M : Type 1} → statement M
 put_flat_spec =

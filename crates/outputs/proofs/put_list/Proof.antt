@@ -6,17 +6,17 @@ use Rattle.outputs.specs.Outputs.{values_of, or_old, list_out}
 use Rattle.outputs.proofs.put_list.Statement.{statement}
 use Rattle.outputs.proofs.put_list.Tie as tie
 
-returns : tie.Need-returns
+returns : tie.Need-returns-in-Listed
 unfolding matched_of list_out answer_number values_of or_old
-returns c = rw c.before.m.given.1
+returns c = rw c.in-Listed.is
 
-returns_2 : tie.Need-returns-2
+returns_2 : tie.Need-returns-in-More
 unfolding matched_of list_out answer_number values_of or_old
-returns_2 c = rw c.before.m2.given.1
+returns_2 c = rw c.in-More.is
 
-returns_3 : tie.Need-returns-3
+returns_3 : tie.Need-returns-in-Refused
 unfolding matched_of list_out answer_number values_of or_old
-returns_3 c = rw c.before.m3.given.1
+returns_3 c = rw c.in-Refused.is
 
 pub put_list_spec : {M : Type 1} → statement M
 put_list_spec =

@@ -6,17 +6,17 @@ use Rattle.outputs.specs.Outputs.{bit, values_of, or_old, truth_out}
 use Rattle.outputs.proofs.put_truth.Statement.{statement}
 use Rattle.outputs.proofs.put_truth.Tie as tie
 
-returns : tie.Need-returns
+returns : tie.Need-returns-in-Yes
 unfolding verdict_of truth_out answer_number values_of or_old bit
-returns c = rw c.enum_told.given.1
+returns c = rw c.in-Yes.is
 
-returns_2 : tie.Need-returns-2
+returns_2 : tie.Need-returns-in-No
 unfolding verdict_of truth_out answer_number values_of or_old bit
-returns_2 c = rw c.enum-told2.given.1
+returns_2 c = rw c.in-No.is
 
-returns_3 : tie.Need-returns-3
+returns_3 : tie.Need-returns-in-Refused
 unfolding verdict_of truth_out answer_number values_of or_old bit
-returns_3 c = rw c.before.v.given.1
+returns_3 c = rw c.in-Refused.is
 
 pub put_truth_spec : {M : Type 1} → statement M
 put_truth_spec =

@@ -7,26 +7,20 @@ use Rattle.outputs.specs.SheetOutputLaws.{counted_limited, read_out}
 use Rattle.outputs.proofs.read_sheet.Statement.{statement}
 use Rattle.outputs.proofs.read_sheet.Tie as tie
 
-put_counts_requires : tie.Need-put-counts-requires
+put_counts_requires : tie.Need-put_counts-requires
 unfolding read_of
 put_counts_requires c κs =
-    let at_c = c.before.before.before.before.before.before in
-    let at-read-sheet = at_c.before.before.before.before.before.before.before.before in
-    counted_limited _ _ _ _ _ _ _ _ at-read-sheet.read-sheet.ensures _ (ap read_of at_c.c.given.1)
+    counted_limited _ _ _ _ _ _ _ _ c.read_sheet.ensures _ (ap read_of c.in-Counted.is)
 
-returns : tie.Need-returns
+returns : tie.Need-returns-in-Refused
 unfolding read_of counts_out
 returns c =
-    let at_n = c.before in
-    let at-read-sheet = at_n.before.before.before.before.before.before.before.before in
-    read_out _ _ _ _ _ _ _ _ at-read-sheet.read-sheet.ensures _ _ (ap read_of at_n.n.given.1) refl
+    read_out _ _ _ _ _ _ _ _ c.read_sheet.ensures _ _ (ap read_of c.in-Refused.is) refl
 
-returns_2 : tie.Need-returns-2
+returns_2 : tie.Need-returns-in-Counted
 unfolding read_of
 returns_2 c =
-    let at_c = c.before.before.before.before.before.before.before in
-    let at-read-sheet = at_c.before.before.before.before.before.before.before.before in
-    read_out _ _ _ _ _ _ _ _ at-read-sheet.read-sheet.ensures _ _ (ap read_of at_c.c.given.1) c.put-counts.ensures
+    read_out _ _ _ _ _ _ _ _ c.read_sheet.ensures _ _ (ap read_of c.in-Counted.is) c.put_counts.ensures
 
 pub read_sheet_spec : {M : Type 1} → statement M
 read_sheet_spec =

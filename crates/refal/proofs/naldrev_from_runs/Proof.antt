@@ -5,7 +5,7 @@ use Rattle.refal.proofs.naldrev_from_runs.Statement.{statement}
 use Rattle.refal.proofs.naldrev_from_runs.Tie as tie
 
 returns : tie.Need-returns
-returns c = field-left _ _ _ c.before.before.before.before.before.from_runs_lem.ensures c.put-field.ensures
+returns c = field-left _ _ _ c.from_runs-chained.ensures c.put_field.ensures
 
 pub naldrev_from_runs_spec : {M : Type 1} → statement M
 naldrev_from_runs_spec =

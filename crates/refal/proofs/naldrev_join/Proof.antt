@@ -5,7 +5,7 @@ use Rattle.refal.proofs.naldrev_join.Statement.{statement}
 use Rattle.refal.proofs.naldrev_join.Tie as tie
 
 returns : tie.Need-returns
-returns c = field-left _ _ _ c.before.before.before.before.before.join.ensures c.put-field.ensures
+returns c = field-left _ _ _ c.join-joined.ensures c.put_field.ensures
 
 pub naldrev_join_spec : {M : Type 1} → statement M
 naldrev_join_spec = tie.close (tie.spec (λ c κs. search rules) (λ c κs. search rules) (λ c. search rules) returns)

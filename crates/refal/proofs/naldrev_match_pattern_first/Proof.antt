@@ -5,7 +5,7 @@ use Rattle.refal.proofs.naldrev_match_pattern_first.Statement.{statement}
 use Rattle.refal.proofs.naldrev_match_pattern_first.Tie as tie
 
 returns : tie.Need-returns
-returns c = list_left _ _ _ c.before.before.before.before.before.before.before.match-pattern-first.ensures c.put-list.ensures
+returns c = list_left _ _ _ c.match_pattern_first-head.ensures c.put_list.ensures
 
 pub naldrev_match_pattern_first_spec : {M : Type 1} → statement M
 naldrev_match_pattern_first_spec =

@@ -7,11 +7,11 @@ use Rattle.refal.proofs.naldrev_match_pattern_with_bindings_candidates.Statement
 use Rattle.refal.proofs.naldrev_match_pattern_with_bindings_candidates.Tie as tie
 
 match_pattern_with_bindings_candidates_requires :
-    tie.Need-match-pattern-with-bindings-candidates-requires
+    tie.Need-match_pattern_with_bindings_candidates-listed-requires
 match_pattern_with_bindings_candidates_requires c κs = search rules
 
 returns : tie.Need-returns
-returns c = list_left _ _ _ c.before.before.before.before.before.before.before.match-pattern-with-bindings-candidates.ensures c.put-list.ensures
+returns c = list_left _ _ _ c.match_pattern_with_bindings_candidates-listed.ensures c.put_list.ensures
 
 pub naldrev_match_pattern_with_bindings_candidates_spec : {M : Type 1} → statement M
 naldrev_match_pattern_with_bindings_candidates_spec =

@@ -5,7 +5,7 @@ use Rattle.refal.proofs.naldrev_range.Statement.{statement}
 use Rattle.refal.proofs.naldrev_range.Tie as tie
 
 returns : tie.Need-returns
-returns c = field-left _ _ _ c.before.before.before.before.before.range.ensures c.put-field.ensures
+returns c = field-left _ _ _ c.range-ranged.ensures c.put_field.ensures
 
 pub naldrev_range_spec : {M : Type 1} → statement M
 naldrev_range_spec = tie.close (tie.spec (λ c κs. search rules) (λ c κs. search rules) (λ c. search rules) returns)

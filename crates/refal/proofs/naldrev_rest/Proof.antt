@@ -5,7 +5,7 @@ use Rattle.refal.proofs.naldrev_rest.Statement.{statement}
 use Rattle.refal.proofs.naldrev_rest.Tie as tie
 
 returns : tie.Need-returns
-returns c = field-left _ _ _ c.before.before.before.before.before.rest.ensures c.put-field.ensures
+returns c = field-left _ _ _ c.rest-dropped.ensures c.put_field.ensures
 
 pub naldrev_rest_spec : {M : Type 1} → statement M
 naldrev_rest_spec = tie.close (tie.spec (λ c κs. search rules) (λ c κs. search rules) (λ c. search rules) returns)

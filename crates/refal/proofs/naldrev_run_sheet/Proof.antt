@@ -5,7 +5,7 @@ use Rattle.refal.proofs.naldrev_run_sheet.Statement.{statement}
 use Rattle.refal.proofs.naldrev_run_sheet.Tie as tie
 
 returns : tie.Need-returns
-returns c = write-left _ _ c.before.before.before.before.run-sheet.ensures c.Put-written.ensures
+returns c = write-left _ _ c.run_sheet-ran.ensures c.put_written.ensures
 
 pub naldrev_run_sheet_spec : {M : Type 1} → statement M
 naldrev_run_sheet_spec =

@@ -5,7 +5,7 @@ use Rattle.refal.proofs.naldrev_write_sheet.Statement.{statement}
 use Rattle.refal.proofs.naldrev_write_sheet.Tie as tie
 
 returns : tie.Need-returns
-returns c = write-left _ _ c.before.before.before.before.write-sheet.ensures c.Put-written.ensures
+returns c = write-left _ _ c.write_sheet-wrote.ensures c.put_written.ensures
 
 pub naldrev_write_sheet_spec : {M : Type 1} → statement M
 naldrev_write_sheet_spec =

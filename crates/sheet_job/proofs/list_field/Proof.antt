@@ -9,27 +9,23 @@ use borrow.Author.Rules.{rules}
 use Rattle.sheet_job.proofs.list_field.Statement.{statement}
 use Rattle.sheet_job.proofs.list_field.Tie as tie
 
-mul_slots : tie.Need-overflow-mul-slots
+mul_slots : tie.Need-overflow_mul-slots
 mul_slots c =
-    let at-start = c.before.before.before.before.before.before.before.before in
-    omega (arith, c.before.name-count.ensures, count_few at-start.args.names.now at-start.args.pattern.now [])
+    omega (arith, c.name_count-entries.ensures, count_few c.args.names.now c.args.pattern.now [])
 
-array_borrow_prefix_slots : tie.Need-array-borrow-prefix-slots
+array_borrow_prefix_slots : tie.Need-slice_bounds-slots-end
 array_borrow_prefix_slots c =
-    let at-start = c.before.before.before.before.before.before.before.before in
-    omega (arith, c.before.name-count.ensures, count_few at-start.args.names.now at-start.args.pattern.now [])
+    omega (arith, c.name_count-entries.ensures, count_few c.args.names.now c.args.pattern.now [])
 
-slice_aggregate_list_into : tie.Need-slice-aggregate-list-into
-slice_aggregate_list_into c = ap (name_words *◌) c.before.before.name-count.ensures ∙ sym (sixteen_words _ _ _ c.before.before.name-count.ensures)
+slice_aggregate_list_into : tie.Need-slice_bounds-list_into-end
+slice_aggregate_list_into c = ap (name_words *◌) c.name_count-entries.ensures ∙ sym (sixteen_words _ _ _ c.name_count-entries.ensures)
 
-list_into_requires : tie.Need-list-into-requires
-list_into_requires c κs = sixteen_words _ _ _ c.before.before.before.name-count.ensures
+list_into_requires : tie.Need-list_into-requires
+list_into_requires c κs = sixteen_words _ _ _ c.name_count-entries.ensures
 
 returns : tie.Need-returns
 returns c =
-    let at-list-into = c.before.before.before.before.before in
-    let at-name-count = at-list-into.before.before.before.before in
-    rw (← sixteen_slots _ _ _ at-name-count.name-count.ensures) at-list-into.list-into.ensures
+    rw (← sixteen_slots _ _ _ c.name_count-entries.ensures) c.list_into.ensures
 
 pub list_field_spec : {M : Type 1} → statement M
 list_field_spec =

@@ -6,19 +6,14 @@ use borrow.Author.Rules.{rules}
 use Rattle.sheet_job.proofs.list_into.Statement.{statement}
 use Rattle.sheet_job.proofs.list_into.Tie as tie
 
-print_listing_requires : tie.Need-print-listing-requires
+print_listing_requires : tie.Need-print_listing-requires
 print_listing_requires c κs =
-    let at-list = c.before.before.before.before.before.before in
-    let start = at-list.before.before.before.before.before.before.before.before.before.before.before in
-    (listing-left _ _ _ _ _ at-list.match-pattern-with-bindings-candidates.ensures start.requires).fits
+    (listing-left _ _ _ _ _ c.match_pattern_with_bindings_candidates-m.ensures c.requires).fits
 
 returns : tie.Need-returns
 returns c =
-    let at-print = c.before.before in
-    let at-list = at-print.before.before.before.before.before.before.before in
-    let start = at-list.before.before.before.before.before.before.before.before.before.before.before in
-    let shown = listing-left _ _ _ _ _ at-list.match-pattern-with-bindings-candidates.ensures start.requires in
-    at-print.print-listing.ensures ∙ ap (λ x. written x start.args.out.now) shown.text
+    let shown = listing-left _ _ _ _ _ c.match_pattern_with_bindings_candidates-m.ensures c.requires in
+    c.print_listing.ensures ∙ ap (λ x. written x c.args.out.now) shown.text
 
 pub list_into_spec : {M : Type 1} → statement M
 list_into_spec =

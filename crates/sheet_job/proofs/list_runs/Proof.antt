@@ -7,22 +7,15 @@ use borrow.Author.Rules.{rules}
 use Rattle.sheet_job.proofs.list_runs.Statement.{statement}
 use Rattle.sheet_job.proofs.list_runs.Tie as tie
 
-returns : tie.Need-returns
+returns : tie.Need-returns-in-Refused
 unfolding answer_of
 returns c =
-    let at_n = c.before.before.before.before.before in
-    let at-from-runs = at_n.before.before.before in
-    let at-start = at-from-runs.before.before.before.before.before.before.before.before.before in
-    c.before.before.print-refusal.ensures ∙ ap (λ x. written x at-start.args.out.now) (runs-refused _ _ _ _ _ _ _ at-from-runs.from_runs_lem.ensures (ap answer_of at_n.n.given.1))
+    c.print_refusal.ensures ∙ ap (λ x. written x c.args.out.now) (runs-refused _ _ _ _ _ _ _ c.from_runs.ensures (ap answer_of c.in-Refused.is))
 
-returns_2 : tie.Need-returns-2
+returns_2 : tie.Need-returns-in-Built
 unfolding answer_of
 returns_2 c =
-    let at-list-field = c.before.before.before.before in
-    let at_f = at-list-field.before.before.before.before.before in
-    let at-from-runs = at_f.before.before.before in
-    let at-start = at-from-runs.before.before.before.before.before.before.before.before.before in
-    at-list-field.list-field.ensures ∙ ap (λ x. written x at-start.args.out.now) (runs_built _ _ _ _ _ _ _ at-from-runs.from_runs_lem.ensures (ap answer_of at_f.f.given.1))
+    c.list_field.ensures ∙ ap (λ x. written x c.args.out.now) (runs_built _ _ _ _ _ _ _ c.from_runs.ensures (ap answer_of c.in-Built.is))
 
 pub list_runs_spec : {M : Type 1} → statement M
 list_runs_spec =

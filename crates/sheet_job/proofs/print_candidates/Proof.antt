@@ -6,34 +6,27 @@ use borrow.Author.Rules.{rules}
 use Rattle.sheet_job.proofs.print_candidates.Statement.{statement}
 use Rattle.sheet_job.proofs.print_candidates.Tie as tie
 
-mul_all : tie.Need-overflow-mul-all
+mul_all : tie.Need-overflow_mul-all
 mul_all c =
-    let at-start = c.before.before in
-    omega (arith, entries_few at-start.args.c at-start.args.k at-start.requires.few)
+    omega (arith, entries_few c.args.c c.args.k c.requires.few)
 
-add-all : tie.Need-overflow-add-all
+add-all : tie.Need-overflow_add-all
 add-all c =
-    let at-start = c.before.before in
-    omega (arith, entries_few at-start.args.c at-start.args.k at-start.requires.few)
+    omega (arith, entries_few c.args.c c.args.k c.requires.few)
 
-returns : tie.Need-returns
+returns : tie.Need-returns-then-out-all
 unfolding written_of
 returns c =
-    let at-start = c.before.before.before in
-    short-written _ _ (omega (arith, listing-length at-start.args.number at-start.args.c at-start.args.k at-start.args.slots.now))
+    short-written _ _ (omega (arith, listing-length c.args.number c.args.c c.args.k c.args.slots.now))
 
-write_entries_requires : tie.Need-write-entries-requires
+write_entries_requires : tie.Need-write_entries-requires
 write_entries_requires c κs =
-    let at-write-line = c.before.before.before in
-    let at-start = at-write-line.before.before.before.before.before in
-    (entries_few at-start.args.c at-start.args.k at-start.requires.few, at-start.requires.inside, omega (arith, at-write-line.write-line.auto.0))
+    (entries_few c.args.c c.args.k c.requires.few, c.requires.inside, omega (arith, c.write_line.auto.out))
 
-returns_2 : tie.Need-returns-2
+returns_2 : tie.Need-returns
 unfolding written_of
 returns_2 c =
-    let at-write-line = c.before.before.before.before.before.before in
-    let at-start = at-write-line.before.before.before.before.before in
-    listing-written at-start.args.number _ _ _ _ _ _ (omega arith) at-write-line.write-line.ensures c.before.before.write_entries.ensures
+    listing-written c.args.number _ _ _ _ _ _ (omega arith) c.write_line.ensures c.write_entries.ensures
 
 pub print_candidates_spec : {M : Type 1} → statement M
 print_candidates_spec =

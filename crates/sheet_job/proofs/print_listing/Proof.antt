@@ -9,36 +9,30 @@ use borrow.Author.Rules.{rules}
 use Rattle.sheet_job.proofs.print_listing.Statement.{statement}
 use Rattle.sheet_job.proofs.print_listing.Tie as tie
 
-print_candidates_requires : tie.Need-print-candidates-requires
+print_candidates_requires : tie.Need-print_candidates-requires
 unfolding matched_of
-print_candidates_requires c κs = fits_listed _ 0 _ _ _ (ap matched_of c.before.before.m.given.1) c.before.before.before.before.before.before.requires
+print_candidates_requires c κs = fits_listed _ 0 _ _ _ (ap matched_of c.in-Listed.is) c.requires
 
-print_candidates_requires_2 : tie.Need-print-candidates-requires-2
+print_candidates_requires_2 : tie.Need-print_candidates-requires-in-More
 unfolding matched_of
-print_candidates_requires_2 c κs = fits_listed _ 15 _ _ _ (ap matched_of c.before.before.m2.given.1) c.before.before.before.before.before.before.requires
+print_candidates_requires_2 c κs = fits_listed _ 15 _ _ _ (ap matched_of c.in-More.is) c.requires
 
-returns : tie.Need-returns
+returns : tie.Need-returns-in-Listed
 unfolding matched_of answer_number slots_of listing_text
 returns c =
-    let at-m = c.before.before.before.before.before in
-    let at-start = at-m.before.before.before.before in
-    c.before.before.print-candidates.ensures ∙ ap (λ x. written (listing_text (matched_of x) at-start.args.slots.now) at-start.args.out.now) (sym at-m.m.given.1)
+    c.print_candidates.ensures ∙ ap (λ x. written (listing_text (matched_of x) c.args.slots.now) c.args.out.now) (sym c.in-Listed.is)
 
-returns_2 : tie.Need-returns-2
+returns_2 : tie.Need-returns-in-More
 unfolding matched_of answer_number slots_of listing_text
 returns_2 c =
-    let at-m2 = c.before.before.before.before.before in
-    let at-start = at-m2.before.before.before.before in
-    c.before.before.print-candidates2.ensures ∙ ap (λ x. written (listing_text (matched_of x) at-start.args.slots.now) at-start.args.out.now) (sym at-m2.m2.given.1)
+    c.print_candidates-in-More.ensures ∙ ap (λ x. written (listing_text (matched_of x) c.args.slots.now) c.args.out.now) (sym c.in-More.is)
 
-returns_3 : tie.Need-returns-3
+returns_3 : tie.Need-returns-in-Refused
 unfolding matched_of
 returns_3 c =
-    let at-m3 = c.before.before.before.before.before in
-    let at-start = at-m3.before.before.before.before in
-    let lent = at-start.args in
-    c.before.before.print-refusal.ensures ∙ ap (λ x. written x lent.out.now) (refusal_listed _ lent.slots.now)
-    ∙ ap (λ x. written (listing_text (matched_of x) lent.slots.now) lent.out.now) (sym at-m3.m3.given.1)
+    let lent = c.args in
+    c.print_refusal.ensures ∙ ap (λ x. written x lent.out.now) (refusal_listed _ lent.slots.now)
+    ∙ ap (λ x. written (listing_text (matched_of x) lent.slots.now) lent.out.now) (sym c.in-Refused.is)
 
 pub print_listing_spec : {M : Type 1} → statement M
 print_listing_spec =

@@ -8,66 +8,47 @@ use borrow.Author.Rules.{rules}
 use Rattle.sheet_job.proofs.run_sheet.Statement.{statement}
 use Rattle.sheet_job.proofs.run_sheet.Tie as tie
 
-mul_runs : tie.Need-overflow-mul-runs
+mul_runs : tie.Need-overflow_mul-runs
 unfolding read_of
 mul_runs c =
-    let at_c = c.before.before.before.before in
-    let at_read = at_c.before.before.before.before.before in
-    omega (arith, sheet_lent _ _ _ _ _ at_read.read-sheet.ensures _ (ap read_of at_c.c.given.1))
+    omega (arith, sheet_lent _ _ _ _ _ c.read_sheet.ensures _ (ap read_of c.in-Counted.is))
 
-array_share_prefix_runs : tie.Need-array-share-prefix-runs
+array_share_prefix_runs : tie.Need-slice_bounds-runs-end
 unfolding read_of
 array_share_prefix_runs c =
-    let at_c = c.before.before.before.before in
-    let at_read = at_c.before.before.before.before.before in
-    omega (arith, sheet_lent _ _ _ _ _ at_read.read-sheet.ensures _ (ap read_of at_c.c.given.1))
+    omega (arith, sheet_lent _ _ _ _ _ c.read_sheet.ensures _ (ap read_of c.in-Counted.is))
 
-slice_aggregate_list_runs_2 : tie.Need-slice-aggregate-list-runs-2
+slice_aggregate_list_runs_2 : tie.Need-slice_bounds-list_runs-end-in-Counted
 unfolding read_of
 slice_aggregate_list_runs_2 c =
-    let at_c = c.before.before.before.before.before in
-    let at_read = at_c.before.before.before.before.before in
-    (sheet_lent _ _ _ _ _ at_read.read-sheet.ensures _ (ap read_of at_c.c.given.1)).size_runs
+    (sheet_lent _ _ _ _ _ c.read_sheet.ensures _ (ap read_of c.in-Counted.is)).size_runs
 
-mul_pattern : tie.Need-overflow-mul-pattern
+mul_pattern : tie.Need-overflow_mul-pattern
 unfolding read_of
 mul_pattern c =
-    let at_c = c.before.before.before.before.before.before in
-    let at_read = at_c.before.before.before.before.before in
-    omega (arith, sheet_lent _ _ _ _ _ at_read.read-sheet.ensures _ (ap read_of at_c.c.given.1))
+    omega (arith, sheet_lent _ _ _ _ _ c.read_sheet.ensures _ (ap read_of c.in-Counted.is))
 
-array_share_prefix_pattern : tie.Need-array-share-prefix-pattern
+array_share_prefix_pattern : tie.Need-slice_bounds-pattern-end
 unfolding read_of
 array_share_prefix_pattern c =
-    let at_c = c.before.before.before.before.before.before in
-    let at_read = at_c.before.before.before.before.before in
-    omega (arith, sheet_lent _ _ _ _ _ at_read.read-sheet.ensures _ (ap read_of at_c.c.given.1))
+    omega (arith, sheet_lent _ _ _ _ _ c.read_sheet.ensures _ (ap read_of c.in-Counted.is))
 
-slice_aggregate_list_runs_3 : tie.Need-slice-aggregate-list-runs-3
+slice_aggregate_list_runs_3 : tie.Need-slice_bounds-list_runs-end-in-Counted-2
 unfolding read_of
 slice_aggregate_list_runs_3 c =
-    let at_c = c.before.before.before.before.before.before.before in
-    let at_read = at_c.before.before.before.before.before in
-    (sheet_lent _ _ _ _ _ at_read.read-sheet.ensures _ (ap read_of at_c.c.given.1)).size_pattern
+    (sheet_lent _ _ _ _ _ c.read_sheet.ensures _ (ap read_of c.in-Counted.is)).size_pattern
 
-returns : tie.Need-returns
+returns : tie.Need-returns-in-Refused
 unfolding read_of
 returns c =
-    let at_n = c.before.before.before.before.before in
-    let at_read = at_n.before.before.before.before.before in
-    let start = at_read.before.before.before.before.before.before in
-    c.before.before.print-refusal.ensures
-    ∙ ap (λ x. written x start.args.out.now) (run-refused _ _ _ _ _ at_read.read-sheet.ensures _ (ap read_of at_n.n.given.1))
+    c.print_refusal.ensures
+    ∙ ap (λ x. written x c.args.out.now) (run-refused _ _ _ _ _ c.read_sheet.ensures _ (ap read_of c.in-Refused.is))
 
-returns_2 : tie.Need-returns-2
+returns_2 : tie.Need-returns-in-Counted
 unfolding read_of
 returns_2 c =
-    let at-list = c.before.before.before in
-    let at_Names = at-list.before.before.before.before.before.before.before in
-    let at_c = at_Names.before.before in
-    let at_read = at_c.before.before.before.before.before in
-    let lent = sheet_lent _ _ _ _ _ at_read.read-sheet.ensures _ (ap read_of at_c.c.given.1) in
-    rw (← lent.printed) (rw (← at_Names.names-part.ensures) at-list.list-runs.ensures)
+    let lent = sheet_lent _ _ _ _ _ c.read_sheet.ensures _ (ap read_of c.in-Counted.is) in
+    rw (← lent.printed) (rw (← c.names_part-names.ensures) c.list_runs.ensures)
 
 pub run_sheet_spec : {M : Type 1} → statement M
 run_sheet_spec =

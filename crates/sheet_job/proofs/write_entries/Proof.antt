@@ -12,46 +12,38 @@ use Rattle.sheet_job.specs.JobLaws.{entries_step}
 use Rattle.sheet_job.proofs.write_entries.Statement.{statement}
 use Rattle.sheet_job.proofs.write_entries.Tie as tie
 
-abbrev invariant_loop : tie.invariant_loop
+abbrev invariant_loop : tie.invariant-loop-i
 invariant_loop slots k n out₀ i₀ out i = (i ≤ n) × (length out ≡ length out₀) × (out ≡ laid_at out₀ line_bytes (entry_lines k slots 0 i))
 
-abbrev decreases_loop : tie.decreases_loop
+abbrev decreases_loop : tie.decreases-loop-i
 decreases_loop slots k n out₀ i₀ out i = n - i
 
-loop_holds : tie.Need-loop-init invariant_loop decreases_loop
+loop_holds : tie.Need-loop-i-init invariant_loop decreases_loop
 unfolding entry_lines
 loop_holds c = (omega arith, refl, sym (laid_at_none _ _))
 
-add-write-line : tie.Need-overflow-add-write-line invariant_loop decreases_loop
+add-write-line : tie.Need-overflow_add-i-in-loop-i invariant_loop decreases_loop
 add-write-line c =
-    let at-loop = c.before.before.before.before in
-    let at-start = at-loop.before.before.before in
-    omega (arith, div-le_self at-loop.loop.i at-start.args.k)
+    omega (arith, div-le_self c.loop-i.i c.args.k)
 
-add_write_line_2 : tie.Need-overflow-add-write-line-2 invariant_loop decreases_loop
+add_write_line_2 : tie.Need-overflow_add-i-in-loop-i-2 invariant_loop decreases_loop
 add_write_line_2 c =
-    let at-loop = c.before.before.before.before in
-    let at-start = at-loop.before.before.before in
-    omega (arith, mod-le at-loop.loop.i at-start.args.k)
+    omega (arith, mod-le c.loop-i.i c.args.k)
 
-loop_again : tie.Need-loop-preserved invariant_loop decreases_loop
+loop_again : tie.Need-loop-i-preserved invariant_loop decreases_loop
 loop_again c =
-    let at-write-line = c.before.before in
-    let at-word2 = at-write-line.before.before in
-    let at-word = at-word2.before in
-    let at-loop = at-word.before.before in
-    let at-start = at-loop.before.before.before in (
+    (
       omega arith,
-      at-write-line.write-line.auto.0 ∙ at-loop.loop.invariant.1,
-      entries_step at-start.args.k _ _ _ _ _ (omega arith) at-loop.loop.invariant.2
-          (rw (← at-word.word.ensures, ← at-word2.word2.ensures) at-write-line.write-line.ensures),
+      c.write_line.auto.out ∙ c.loop-i.invariant.1,
+      entries_step c.args.k _ _ _ _ _ (omega arith) c.loop-i.invariant.2
+          (rw (← c.word-start.ensures, ← c.word-len.ensures) c.write_line.ensures),
     )
 
-same_length : tie.Need-same-length invariant_loop decreases_loop
-same_length c = c.before.loop.invariant.1
+same_length : tie.Need-shape_of-out invariant_loop decreases_loop
+same_length c = c.loop-i.invariant.1
 
 returns : tie.Need-returns invariant_loop decreases_loop
-returns c = let e : c.before.loop.i ≡ c.before.before.before.before.args.n = omega arith in rw (← e) c.before.loop.invariant.2
+returns c = let e : c.loop-i.i ≡ c.args.n = omega arith in rw (← e) c.loop-i.invariant.2
 
 pub write_entries_spec : {M : Type 1} → statement M
 write_entries_spec =
