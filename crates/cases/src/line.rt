@@ -1,73 +1,82 @@
 // The lines of a file, and the tokens of a line.
 use crate::at::{Have, Names, Row, State};
 use crate::{at, row, tell, verbs};
+use std::io;
+use std::rt::Env;
 
 // A token that is no value begins a clause.
 fn token(
+    rt: &(impl Env + Print),
     t: &[u8],
     names: &mut Names,
     have: &mut Have,
     want: &mut Have,
     row: &mut Row,
     state: &mut State,
-) {
+) -> io::Result<()> {
     if state[at::BAD] != 0 {
-        return;
+        return Ok(());
     }
     if row::values(t, names, row, state) {
-        return;
+        return Ok(());
     }
-    verbs::end_clause(names, have, want, row, state);
+    verbs::end_clause(rt, names, have, want, row, state)?;
     verbs::begin_clause(t, row, state);
+    Ok(())
 }
 
 fn tokens(
+    rt: &(impl Env + Print),
     line: &[u8],
     names: &mut Names,
     have: &mut Have,
     want: &mut Have,
     row: &mut Row,
     state: &mut State,
-) {
+) -> io::Result<()> {
     let mut at = 0;
     while at < line.len() {
         let e = lines::token_end(line, at);
-        token(&line[at..e], names, have, want, row, state);
+        token(rt, &line[at..e], names, have, want, row, state)?;
         at = e;
     }
+    Ok(())
 }
 
 fn line(
+    rt: &(impl Env + Print),
     line: &[u8],
     names: &mut Names,
     have: &mut Have,
     want: &mut Have,
     row: &mut Row,
     state: &mut State,
-) {
+) -> io::Result<()> {
     at::count(state, at::LINE);
     state[at::BAD] = 0;
-    tokens(line, names, have, want, row, state);
-    verbs::end_clause(names, have, want, row, state);
+    tokens(rt, line, names, have, want, row, state)?;
+    verbs::end_clause(rt, names, have, want, row, state)?;
     if state[at::BAD] != 0 {
-        tell::unread(state, b"the line cannot be read");
+        tell::unread(rt, state, b"the line cannot be read")?;
     }
+    Ok(())
 }
 
 // The last call is checked at the end.
 pub fn lines(
+    rt: &(impl Env + Print),
     text: &[u8],
     names: &mut Names,
     have: &mut Have,
     want: &mut Have,
     row: &mut Row,
     state: &mut State,
-) {
+) -> io::Result<()> {
     let mut at = 0;
     while at < text.len() {
         let e = lines::line_end(text, at);
-        line(&text[at..e], names, have, want, row, state);
+        line(rt, &text[at..e], names, have, want, row, state)?;
         at = e;
     }
-    verbs::settle(have, want, state);
+    verbs::settle(rt, have, want, state)
 }

@@ -1,6 +1,6 @@
 // Runs the cases of the files that the arguments name: lines of stores, calls and what they must answer and leave (docs/CASES.md has their
 // form). It prints a line for each case that went wrong and for each line that cannot be read, then for each file how many cases ran.
-// Stack: a file's text of up to 1 MB, the names, and arrays of words, less than 1.3 MB in all.
+// Stack: the names and arrays of words, less than 0.3 MB in all. A file's text of up to 1 MB is on the heap.
 #![tactic(auto)]
 
 mod at;
@@ -13,66 +13,86 @@ mod verbs;
 mod vocabulary;
 
 use crate::at::{Have, Names, Row, State};
+use std::io::Read;
+use std::rt::{Env, Files};
+use std::{env, fs, io, str};
 
-// The text of an open file. It has to end before the buffer does.
+// The text of an open file. It has to be shorter than 1 MB.
 fn read(
-    fd: i32,
-    text: &mut [u8; 1048576],
+    rt: &(impl Env + Print),
+    file: impl Read + Drop,
+    text: &mut Vec<u8>,
     names: &mut Names,
     have: &mut Have,
     want: &mut Have,
     row: &mut Row,
     state: &mut State,
-) {
-    let n = io::read_full(fd, text);
-    line::lines(lines::first(text, n), names, have, want, row, state);
+) -> io::Result<()> {
+    let n = file.take(1048576).read_to_end(text)?;
+    line::lines(rt, text, names, have, want, row, state)?;
     if 1048575 < n {
-        tell::unread(state, b"the file is too long");
+        tell::unread(rt, state, b"the file is too long")?;
     }
+    Ok(())
 }
 
-fn file(names: &mut Names, have: &mut Have, want: &mut Have, row: &mut Row, state: &mut State) {
-    let mut path = io::buffer();
-    let n = os::arg(state[at::FILE], &mut path);
-    let fd = os::open_read(&path[..n]);
-    if fd < 0 {
-        tell::unread(state, b"the file cannot be opened");
-        return;
-    }
-    let mut text = [0u8; 1048576];
-    read(fd, &mut text, names, have, want, row, state);
-    libc::close(fd);
+// None where the file cannot be opened, or where its path is no text.
+fn open<R: Files>(rt: &R, path: &[u8]) -> Option<R::File> {
+    let path = str::from_utf8(path).ok()?;
+    fs::open(rt, path).ok()
+}
+
+fn file(
+    rt: &(impl Env + Files + AllocGlobal + Print),
+    names: &mut Names,
+    have: &mut Have,
+    want: &mut Have,
+    row: &mut Row,
+    state: &mut State,
+) -> io::Result<()> {
+    let mut path = [0u8; 4096];
+    let n = tell::arg(rt, state[at::FILE], &mut path);
+    let Some(file) = open(rt, &path[..n]) else {
+        return tell::unread(rt, state, b"the file cannot be opened");
+    };
+    let mut text = Vec::new(rt.alloc());
+    read(rt, file, &mut text, names, have, want, row, state)?;
     if state[at::CASES] == 0 {
-        tell::unread(state, b"the file has no cases");
+        tell::unread(rt, state, b"the file has no cases")?;
     }
+    Ok(())
 }
 
 // The file of argument i, from empty stores.
 fn run(
+    rt: &(impl Env + Files + AllocGlobal + Print),
     i: usize,
     names: &mut Names,
     have: &mut Have,
     want: &mut Have,
     row: &mut Row,
     state: &mut State,
-) {
+) -> io::Result<()> {
     *state = [0usize; 64];
     state[at::FILE] = i;
     state[at::VERB] = lines::NONE;
-    file(names, have, want, row, state);
-    tell::counts(state);
+    file(rt, names, have, want, row, state)?;
+    tell::counts(rt, state)
 }
 
-fn main() {
+fn main(rt: HostRuntime) -> io::Result<()> {
     let mut names = [97u8; 65600];
     let mut have = [777u32; at::ALL_WORDS];
     let mut want = [777u32; at::ALL_WORDS];
     let mut row = [0u32; at::ROW_WORDS];
     let mut state = [0usize; 64];
-    let files = os::arg_count();
+    let files = env::args(&rt)?.len();
     let mut i = 1;
     while i < files {
-        run(i, &mut names, &mut have, &mut want, &mut row, &mut state);
+        run(
+            &rt, i, &mut names, &mut have, &mut want, &mut row, &mut state,
+        )?;
         i += 1;
     }
+    Ok(())
 }

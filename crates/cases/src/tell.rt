@@ -1,87 +1,109 @@
 // What is printed: a line for each case that went wrong, and the counts.
+ghost use Rattle.std.specs.Prelude.{◌≤◌, length};
+
 use crate::at::State;
 use crate::{at, store};
+use std::io;
+use std::rt::Env;
 
-fn write(bytes: &[u8]) {
-    io::write_all(libc::STDOUT_FILENO, bytes);
+fn write(rt: &impl Print, bytes: &[u8]) -> io::Result<()> {
+    rt.write_all(bytes)
 }
 
-fn number(n: usize) {
-    io::print_decimal(libc::STDOUT_FILENO, n as u64);
+fn number(rt: &impl Print, n: usize) -> io::Result<()> {
+    rt.print(n)
+}
+
+// The bytes of argument i go to the start of the buffer; none where there is no such argument, or no room for it.
+pub fn arg(rt: &impl Env, i: usize, buf: &mut [u8]) -> usize
+    ensures { result ≤ length buf.new }
+{
+    match rt.arg(i, buf) {
+        Ok(n) => n,
+        Err(_) => 0,
+    }
 }
 
 // The file's name.
-fn file(state: &State) {
-    let mut path = io::buffer();
-    let n = os::arg(state[at::FILE], &mut path);
-    write(&path[..n]);
+fn file(rt: &(impl Env + Print), state: &State) -> io::Result<()> {
+    let mut path = [0u8; 4096];
+    let n = arg(rt, state[at::FILE], &mut path);
+    write(rt, &path[..n])
 }
 
 // How many cases of a file ran, and how many went wrong.
-pub fn counts(state: &State) {
-    file(state);
-    write(b": ");
-    number(state[at::CASES]);
-    write(b" cases, ");
-    number(state[at::WRONG]);
-    write(b" wrong\n");
+pub fn counts(rt: &(impl Env + Print), state: &State) -> io::Result<()> {
+    file(rt, state)?;
+    write(rt, b": ")?;
+    number(rt, state[at::CASES])?;
+    write(rt, b" cases, ")?;
+    number(rt, state[at::WRONG])?;
+    write(rt, b" wrong\n")
 }
 
 // A line, or a file, that cannot be read.
-pub fn unread(state: &mut State, what: &[u8]) {
+pub fn unread(rt: &(impl Env + Print), state: &mut State, what: &[u8]) -> io::Result<()> {
     at::count(state, at::WRONG);
-    file(state);
-    write(b" line ");
-    number(state[at::LINE]);
-    write(b": ");
-    write(what);
-    write(b"\n");
+    file(rt, state)?;
+    write(rt, b" line ")?;
+    number(rt, state[at::LINE])?;
+    write(rt, b": ")?;
+    write(rt, what)?;
+    write(rt, b"\n")
 }
 
 // The case goes wrong; true for the first time, when its line is printed.
-fn fails(state: &mut State) -> bool {
+fn fails(rt: &(impl Env + Print), state: &mut State) -> io::Result<bool> {
     if state[at::FAILED] != 0 {
-        return false;
+        return Ok(false);
     }
     state[at::FAILED] = 1;
-    file(state);
-    write(b" line ");
-    number(state[at::CALLED]);
-    write(b":");
-    true
+    file(rt, state)?;
+    write(rt, b" line ")?;
+    number(rt, state[at::CALLED])?;
+    write(rt, b":")?;
+    Ok(true)
 }
 
 // What came, and what had to come.
-fn both(came: usize, expected: usize) {
-    number(came);
-    write(b", must be ");
-    number(expected);
-    write(b"\n");
+fn both(rt: &impl Print, came: usize, expected: usize) -> io::Result<()> {
+    number(rt, came)?;
+    write(rt, b", must be ")?;
+    number(rt, expected)?;
+    write(rt, b"\n")
 }
 
-pub fn unnamed(state: &mut State) {
-    if fails(state) {
-        write(b" nothing says what the call gives\n");
+pub fn unnamed(rt: &(impl Env + Print), state: &mut State) -> io::Result<()> {
+    if fails(rt, state)? {
+        write(rt, b" nothing says what the call gives\n")?;
     }
+    Ok(())
 }
 
-pub fn used(state: &mut State, label: &[u8], came: usize, expected: usize) {
+pub fn used(
+    rt: &(impl Env + Print),
+    state: &mut State,
+    label: &[u8],
+    came: usize,
+    expected: usize,
+) -> io::Result<()> {
     if came == expected {
-        return;
+        return Ok(());
     }
-    if fails(state) {
-        write(label);
-        both(came, expected);
+    if fails(rt, state)? {
+        write(rt, label)?;
+        both(rt, came, expected)?;
     }
+    Ok(())
 }
 
-fn region(r: usize) {
+fn region(rt: &impl Print, r: usize) -> io::Result<()> {
     match r {
-        0 => write(b" terms"),
-        1 => write(b" nodes"),
-        4 => write(b" slots"),
-        5 => write(b" work"),
-        _ => write(b" shown"),
+        0 => write(rt, b" terms"),
+        1 => write(rt, b" nodes"),
+        4 => write(rt, b" slots"),
+        5 => write(rt, b" work"),
+        _ => write(rt, b" shown"),
     }
 }
 
@@ -102,49 +124,57 @@ fn region_of(p: usize) -> usize {
     6
 }
 
-pub fn word(state: &mut State, p: usize, came: usize, expected: usize) {
-    if fails(state) {
+pub fn word(
+    rt: &(impl Env + Print),
+    state: &mut State,
+    p: usize,
+    came: usize,
+    expected: usize,
+) -> io::Result<()> {
+    if fails(rt, state)? {
         let r = region_of(p);
-        region(r);
-        write(b" word ");
+        region(rt, r)?;
+        write(rt, b" word ")?;
         let from = store::base(r);
         if from <= p {
-            number(p - from);
+            number(rt, p - from)?;
         }
-        write(b" is ");
-        both(came, expected);
+        write(rt, b" is ")?;
+        both(rt, came, expected)?;
     }
+    Ok(())
 }
 
-fn kind(k: usize) {
+fn kind(rt: &impl Print, k: usize) -> io::Result<()> {
     match k {
-        5 => write(b" work"),
-        20 => write(b" field"),
-        21 => write(b" refused"),
-        22 => write(b" yes"),
-        23 => write(b" no"),
-        24 => write(b" store"),
-        25 => write(b" listed"),
-        26 => write(b" more"),
-        27 => write(b" count"),
-        28 => write(b" ok"),
-        _ => write(b" another word"),
+        5 => write(rt, b" work"),
+        20 => write(rt, b" field"),
+        21 => write(rt, b" refused"),
+        22 => write(rt, b" yes"),
+        23 => write(rt, b" no"),
+        24 => write(rt, b" store"),
+        25 => write(rt, b" listed"),
+        26 => write(rt, b" more"),
+        27 => write(rt, b" count"),
+        28 => write(rt, b" ok"),
+        _ => write(rt, b" another word"),
     }
 }
 
-fn whole(k: usize, a: usize, b: usize) {
-    kind(k);
-    write(b" ");
-    number(a);
-    write(b" ");
-    number(b);
+fn whole(rt: &impl Print, k: usize, a: usize, b: usize) -> io::Result<()> {
+    kind(rt, k)?;
+    write(rt, b" ")?;
+    number(rt, a)?;
+    write(rt, b" ")?;
+    number(rt, b)
 }
 
 // Three numbers of the state: an answer that came, or a clause's.
-fn answer_at(state: &State, from: usize) {
+fn answer_at(rt: &impl Print, state: &State, from: usize) -> io::Result<()> {
     if from < 60 {
-        whole(state[from], state[from + 1], state[from + 2]);
+        whole(rt, state[from], state[from + 1], state[from + 2])?;
     }
+    Ok(())
 }
 
 fn as_given(state: &State) -> bool {
@@ -158,15 +188,16 @@ fn as_given(state: &State) -> bool {
 }
 
 // The answer that came, against a clause's.
-pub fn answer(state: &mut State) {
+pub fn answer(rt: &(impl Env + Print), state: &mut State) -> io::Result<()> {
     if as_given(state) {
-        return;
+        return Ok(());
     }
-    if fails(state) {
-        write(b" gives");
-        answer_at(state, at::KIND);
-        write(b", must give");
-        answer_at(state, at::VALUES);
-        write(b"\n");
+    if fails(rt, state)? {
+        write(rt, b" gives")?;
+        answer_at(rt, state, at::KIND)?;
+        write(rt, b", must give")?;
+        answer_at(rt, state, at::VALUES)?;
+        write(rt, b"\n")?;
     }
+    Ok(())
 }

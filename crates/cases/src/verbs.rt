@@ -3,6 +3,8 @@ use crate::at::{Have, Names, Row, State};
 use crate::vocabulary::CALLS;
 use crate::{at, calls, row, store, tell, vocabulary};
 use lines::NONE;
+use std::io;
+use std::rt::Env;
 
 pub fn begin_clause(t: &[u8], row: &mut Row, state: &mut State) {
     let verb = vocabulary::verb(t);
@@ -32,39 +34,50 @@ fn first_difference(have: &Have, want: &Have) -> usize {
 }
 
 // What the pending call left, against what it must leave.
-fn compare(have: &Have, want: &Have, state: &mut State) {
+fn compare(rt: &(impl Env + Print), have: &Have, want: &Have, state: &mut State) -> io::Result<()> {
     if state[at::NAMED] == 0 {
-        tell::unnamed(state);
+        tell::unnamed(rt, state)?;
     }
     let p = first_difference(have, want);
     if p < at::ALL_WORDS {
         let came = words::word(have, p);
         let expected = words::word(want, p);
-        tell::word(state, p, came, expected);
+        tell::word(rt, state, p, came, expected)?;
     }
     let terms = state[at::USED + at::TERMS];
     let nodes = state[at::USED + at::NODES];
     let terms_wanted = state[at::WANTED + at::TERMS];
     let nodes_wanted = state[at::WANTED + at::NODES];
-    tell::used(state, b" used terms ", terms, terms_wanted);
-    tell::used(state, b" used nodes ", nodes, nodes_wanted);
+    tell::used(rt, state, b" used terms ", terms, terms_wanted)?;
+    tell::used(rt, state, b" used nodes ", nodes, nodes_wanted)
 }
 
 // The pending call is a case that is done.
-pub fn settle(have: &Have, want: &Have, state: &mut State) {
+pub fn settle(
+    rt: &(impl Env + Print),
+    have: &Have,
+    want: &Have,
+    state: &mut State,
+) -> io::Result<()> {
     if state[at::PENDING] == 0 {
-        return;
+        return Ok(());
     }
-    compare(have, want, state);
+    compare(rt, have, want, state)?;
     at::count(state, at::CASES);
     if state[at::FAILED] != 0 {
         at::count(state, at::WRONG);
     }
     state[at::PENDING] = 0;
+    Ok(())
 }
 
 // What a call must answer, or what it must write. Both belong to the call before them, which gives one answer.
-fn expect(want: &mut Have, row: &Row, state: &mut State) {
+fn expect(
+    rt: &(impl Env + Print),
+    want: &mut Have,
+    row: &Row,
+    state: &mut State,
+) -> io::Result<()> {
     if state[at::PENDING] == 0 || state[at::FILLED] == 0 {
         state[at::BAD] = 1;
     } else if state[at::VERB] == vocabulary::WRITES {
@@ -73,8 +86,9 @@ fn expect(want: &mut Have, row: &Row, state: &mut State) {
         state[at::BAD] = 1;
     } else {
         state[at::NAMED] = 1;
-        tell::answer(state);
+        tell::answer(rt, state)?;
     }
+    Ok(())
 }
 
 // Whether a call has as many values as it takes, and from_runs words alone.
@@ -110,31 +124,40 @@ fn begin_case(state: &mut State) {
     state[at::CALLED] = state[at::LINE];
 }
 
-fn run(names: &Names, have: &mut Have, want: &mut Have, row: &Row, state: &mut State) {
+fn run(
+    rt: &(impl Env + Print),
+    names: &Names,
+    have: &mut Have,
+    want: &mut Have,
+    row: &Row,
+    state: &mut State,
+) -> io::Result<()> {
     let verb = state[at::VERB];
     if verb == vocabulary::GIVES || verb == vocabulary::WRITES {
-        expect(want, row, state);
-        return;
+        return expect(rt, want, row, state);
     }
-    settle(have, want, state);
+    settle(rt, have, want, state)?;
     if verb < vocabulary::GIVES {
         store::change(verb, have, row, state);
-        return;
+        return Ok(());
     }
     call(names, have, want, row, state);
+    Ok(())
 }
 
 // The clause is done, if there is one that can be read.
 pub fn end_clause(
+    rt: &(impl Env + Print),
     names: &Names,
     have: &mut Have,
     want: &mut Have,
     row: &mut Row,
     state: &mut State,
-) {
+) -> io::Result<()> {
     if state[at::VERB] != NONE && state[at::BAD] == 0 {
         row::pad(row, state);
-        run(names, have, want, row, state);
+        run(rt, names, have, want, row, state)?;
     }
     state[at::VERB] = NONE;
+    Ok(())
 }

@@ -4,11 +4,16 @@
 // 16,384 term records.
 #![tactic(auto)]
 
+ghost use Rattle.std.specs.Prelude.{◌≤◌, length};
+
 mod calls;
 mod stores;
 
 use lines::Parsed;
 use sheet_write::Written;
+use std::io::Read;
+use std::rt::{Env, Files};
+use std::{fs, io, str};
 
 // A line's verb and at most five numbers, and from GIVEN on what it must give. Then how many are filled, whether the line cannot be read, the
 // answer, the line's number, the cases, and how many of them went wrong.
@@ -28,13 +33,13 @@ const CASES: usize = 25;
 
 const WRONG: usize = 26;
 
-fn write(bytes: &[u8]) {
-    io::write_all(libc::STDOUT_FILENO, bytes);
+fn write(rt: &impl Print, bytes: &[u8]) -> io::Result<()> {
+    rt.write_all(bytes)
 }
 
-fn number(n: usize) {
-    write(b" ");
-    io::print_decimal(libc::STDOUT_FILENO, n as u64);
+fn number(rt: &impl Print, n: usize) -> io::Result<()> {
+    write(rt, b" ")?;
+    rt.print(n)
 }
 
 // ---- reading ----
@@ -98,14 +103,15 @@ fn tokens(text: &[u8], line: &mut Line) {
 
 // ---- a line ----
 
-fn show(line: &Line, from: usize) {
+fn show(rt: &impl Print, line: &Line, from: usize) -> io::Result<()> {
     if from <= 20 {
-        number(line[from]);
-        number(line[from + 1]);
-        number(line[from + 2]);
-        number(line[from + 3]);
-        number(line[from + 4]);
+        number(rt, line[from])?;
+        number(rt, line[from + 1])?;
+        number(rt, line[from + 2])?;
+        number(rt, line[from + 3])?;
+        number(rt, line[from + 4])?;
     }
+    Ok(())
 }
 
 fn right(line: &Line) -> bool {
@@ -114,19 +120,19 @@ fn right(line: &Line) -> bool {
     line[BAD] == 0 && found && numbers && line[ANSWER + 3] == line[GIVEN + 3]
 }
 
-fn counted(line: &mut Line) {
+fn counted(rt: &impl Print, line: &mut Line) -> io::Result<()> {
     line[CASES] = stores::least(line[CASES], 1000000) + 1;
     if right(line) {
-        return;
+        return Ok(());
     }
     line[WRONG] = stores::least(line[WRONG], 1000000) + 1;
-    write(b"line");
-    number(line[NUMBER]);
-    write(b": gives");
-    show(line, ANSWER);
-    write(b", must give");
-    show(line, GIVEN);
-    write(b"\n");
+    write(rt, b"line")?;
+    number(rt, line[NUMBER])?;
+    write(rt, b": gives")?;
+    show(rt, line, ANSWER)?;
+    write(rt, b", must give")?;
+    show(rt, line, GIVEN)?;
+    write(rt, b"\n")
 }
 
 fn call(verb: usize, nodes: &mut [u32], words: &mut [u32], line: &mut Line) {
@@ -146,10 +152,10 @@ fn call(verb: usize, nodes: &mut [u32], words: &mut [u32], line: &mut Line) {
 }
 
 // A line that builds a store is no case. A line with no verb has nothing else.
-fn run(nodes: &mut [u32], words: &mut [u32], line: &mut Line) {
+fn run(rt: &impl Print, nodes: &mut [u32], words: &mut [u32], line: &mut Line) -> io::Result<()> {
     let verb = line[0];
     if line[FILLED] == 0 && line[BAD] == 0 {
-        return;
+        return Ok(());
     }
     if 0 < verb && verb < 4 && line[FILLED] == 2 {
         stores::build(verb, stores::least(line[1], 65535), nodes);
@@ -157,8 +163,9 @@ fn run(nodes: &mut [u32], words: &mut [u32], line: &mut Line) {
         stores::share(verb == 5, line[1], words);
     } else {
         call(verb, nodes, words, line);
-        counted(line);
+        counted(rt, line)?;
     }
+    Ok(())
 }
 
 fn clear(line: &mut Line) {
@@ -171,53 +178,84 @@ fn clear(line: &mut Line) {
     line[WRONG] = wrong;
 }
 
-fn all_lines(text: &[u8], nodes: &mut [u32], words: &mut [u32], line: &mut Line) {
+fn all_lines(
+    rt: &impl Print,
+    text: &[u8],
+    nodes: &mut [u32],
+    words: &mut [u32],
+    line: &mut Line,
+) -> io::Result<()> {
     let mut at = 0;
     while at < text.len() {
         let e = lines::line_end(text, at);
         clear(line);
         tokens(&text[at..e], line);
-        run(nodes, words, line);
+        run(rt, nodes, words, line)?;
         at = e;
     }
+    Ok(())
 }
 
 // The words of the terms that a line settles or flattens: 16,384 of them.
 const TERM_ROOM: usize = 16384 * words::TERM_WIDTH;
 
+// The bytes of argument i go to the start of the buffer; none where there is no such argument, or no room for it.
+fn arg(rt: &impl Env, i: usize, buf: &mut [u8]) -> usize
+    ensures { result ≤ length buf.new }
+{
+    match rt.arg(i, buf) {
+        Ok(n) => n,
+        Err(_) => 0,
+    }
+}
+
+// None where the file cannot be opened, or where its path is no text.
+fn open<R: Files>(rt: &R, path: &[u8]) -> Option<R::File> {
+    let path = str::from_utf8(path).ok()?;
+    fs::open(rt, path).ok()
+}
+
 // A file that cannot be opened has no cases, and none is printed.
-fn file(nodes: &mut [u32; 393222], words: &mut [u32; TERM_ROOM], line: &mut Line) {
-    let mut path = io::buffer();
-    let n = os::arg(1, &mut path);
-    let fd = os::open_read(&path[..n]);
-    let mut text = io::large_buffer();
-    let end = io::read_full(fd, &mut text);
-    all_lines(&text[..end], nodes, words, line);
-    write(&path[..n]);
-    write(b":");
-    number(line[CASES]);
-    write(b" cases,");
-    number(line[WRONG]);
-    write(b" wrong\n");
+fn file(
+    rt: &(impl Env + Files + AllocGlobal + Print),
+    nodes: &mut [u32; 393222],
+    words: &mut [u32; TERM_ROOM],
+    line: &mut Line,
+) -> io::Result<()> {
+    let mut path = [0u8; 4096];
+    let n = arg(rt, 1, &mut path);
+    let mut text = Vec::new(rt.alloc());
+    if let Some(file) = open(rt, &path[..n]) {
+        file.take(65536).read_to_end(&mut text)?;
+    }
+    all_lines(rt, &text, nodes, words, line)?;
+    write(rt, &path[..n])?;
+    write(rt, b":")?;
+    number(rt, line[CASES])?;
+    write(rt, b" cases,")?;
+    number(rt, line[WRONG])?;
+    write(rt, b" wrong\n")
 }
 
 // ---- the sheet ----
 
 // The answer to the sheet, `t.1 t.1` on two terms that share their contents (examples/shared.sheet), as the program `sheet` prints it.
-fn answer_sheet() {
-    let mut text = [0u8; sheet_job::LONGEST_SHEET + 1];
-    let n = io::read_full(0, &mut text);
+fn answer_sheet(rt: &(impl Input + AllocGlobal + Print)) -> io::Result<()> {
+    let mut text = Vec::new(rt.alloc());
+    rt.reader()
+        .take(sheet_job::LONGEST_SHEET as u64 + 1)
+        .read_to_end(&mut text)?;
     let mut out = [0u8; sheet_job::LONGEST_ANSWER];
-    match sheet_job::run_sheet(&text[..n], &mut out) {
-        Written::Bytes(k) => write(lines::first(&out, k)),
-        Written::Refused(_) => {}
+    match sheet_job::run_sheet(&text, &mut out) {
+        Written::Bytes(k) => write(rt, lines::first(&out, k)),
+        Written::Refused(_) => Ok(()),
     }
 }
 
-fn main() {
+fn main(rt: HostRuntime) -> io::Result<()> {
     let mut nodes = [0u32; 393222];
     let mut words = [0u32; TERM_ROOM];
     let mut line = [0usize; 32];
-    file(&mut nodes, &mut words, &mut line);
-    answer_sheet();
+    file(&rt, &mut nodes, &mut words, &mut line)?;
+    answer_sheet(&rt)
 }
