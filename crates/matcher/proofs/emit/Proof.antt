@@ -12,10 +12,10 @@ use Rattle.matcher.specs.EmitLaws.{Pasted, pasted_none, pasted_length, pasted_ne
 use Rattle.matcher.proofs.emit.Statement.{statement}
 use Rattle.matcher.proofs.emit.Tie as tie
 
-abbrev invariant_loop : tie.invariant_loop
+abbrev invariant_loop : tie.invariant-loop-i
 invariant_loop binds g slots₀ count width base i₀ slots i = Pasted slots₀ binds base width slots i
 
-abbrev decreases_loop : tie.decreases_loop
+abbrev decreases_loop : tie.decreases-loop-i
 decreases_loop binds g slots₀ count width base i₀ slots i = width - i
 
 -- the words of the entries are there
@@ -23,63 +23,62 @@ long : (c : tie.Start invariant_loop decreases_loop) → slot_words c.args.g.ent
 long c = omega (arith, c.requires.0.0, c.requires.0.1)
 
 -- the slot lies within the words
-within : (c : tie.Else1 invariant_loop decreases_loop) →
-    let a = c.before.before.args in
+within : (c : tie.Else-g-count invariant_loop decreases_loop) →
+    let a = c.args in
     a.f.count * slot_words a.g.entries + slot_words a.g.entries ≤ length a.slots.now
-within c = let at-start = c.before.before in slot_within _ _ _ at-start.args.slots.now at-start.requires.1.room c.if1.false
+within c = slot_within _ _ _ c.args.slots.now c.requires.1.room c.if-g-count.false
 
 -- where the loop is left, and where it is: no slot's word is lost
-same : (c : tie.At-loop invariant_loop decreases_loop) →
-    let at-start = c.before.before.before.before in
-    length c.loop.slots ≡ length at-start.args.slots.now
-same c = let at-else = c.before.before in pasted_length c.loop.invariant (within at-else) (long at-else.before.before)
+same : (c : tie.At-loop-i invariant_loop decreases_loop) →
+    length c.loop-i.slots ≡ length c.args.slots.now
+same c = let at-else = c.before.before in pasted_length c.loop-i.invariant (within at-else) (long at-else.before.before)
 
-returns : tie.Need-returns invariant_loop decreases_loop
-returns c = let at-start = c.before.before in emit_full _ _ _ at-start.requires.1.goes _ at-start.requires.1.most c.if1.true
+returns : tie.Need-returns-then-g-count invariant_loop decreases_loop
+returns c = emit_full _ _ _ c.requires.1.goes _ c.requires.1.most c.if-g-count.true
 
-mul_base : tie.Need-overflow-mul-base invariant_loop decreases_loop
+mul_base : tie.Need-overflow_mul-base invariant_loop decreases_loop
 mul_base c = omega (arith, within c.before)
 
-shared_slice_read_slots : tie.Need-shared-slice-read-slots invariant_loop decreases_loop
-shared_slice_read_slots c = let at-start = c.before.before.before.before.before.before in omega (arith, long at-start, c.before.loop-test.true)
+shared_slice_read_slots : tie.Need-bounds-binds-i invariant_loop decreases_loop
+shared_slice_read_slots c = let at-start = c.before.before.before.before.before.before in omega (arith, long at-start, c.loop-i-test.true)
 
-add_slots : tie.Need-overflow-add-slots invariant_loop decreases_loop
+add_slots : tie.Need-overflow_add-slots invariant_loop decreases_loop
 add_slots c = let at-else = c.before.before.before.before in omega (arith, within at-else)
 
-mul_slots_2 : tie.Need-overflow-mul-slots-2 invariant_loop decreases_loop
+mul_slots_2 : tie.Need-offset_bounds-slots-base invariant_loop decreases_loop
 mul_slots_2 c = let at-else = c.before.before.before.before in omega (arith, within at-else)
 
-slice_write_slots : tie.Need-slice-write-slots invariant_loop decreases_loop
+slice_write_slots : tie.Need-bounds-slots-base invariant_loop decreases_loop
 slice_write_slots c = let at-loop = c.before.before in omega (arith, within at-loop.before.before, same at-loop)
 
-loop_again : tie.Need-loop-preserved invariant_loop decreases_loop
+loop_again : tie.Need-loop-i-preserved invariant_loop decreases_loop
 loop_again c =
     let at-loop = c.before.before in
     let at-else = at-loop.before.before in
-    pasted_next at-loop.loop.invariant (within at-else) (long at-else.before.before) c.before.loop-test.true
+    pasted_next at-loop.loop-i.invariant (within at-else) (long at-else.before.before) c.loop-i-test.true
 
 -- the exits after the loop
-written : (c : tie.After-loop invariant_loop decreases_loop) (stop : ℕ) →
-    let a = c.before.before.before.before.before.args in
+written : (c : tie.After-loop-i invariant_loop decreases_loop) (stop : ℕ) →
+    let a = c.args in
     status_of stop ≡ after_one (wanted_of a.g.head)
-    → Written a.g (hit (entries_in a.g.entries a.binds.now) ∷ []) a.f (record { stop = stop; count = a.f.count + 1 }) a.slots.now c.before.loop.slots
+    → Written a.g (hit (entries_in a.g.entries a.binds.now) ∷ []) a.f (record { stop = stop; count = a.f.count + 1 }) a.slots.now c.loop-i.slots
 written c stop e =
     let at-loop = c.before in
     let at-else = at-loop.before.before in
     let at-start = at-else.before.before in
-    emit_written _ _ _ at-start.requires.1.goes stop at-start.requires.1.room (long at-start) at-else.if1.false at-loop.loop.invariant c.loop-test.false e
+    emit_written _ _ _ at-start.requires.1.goes stop at-start.requires.1.room (long at-start) at-else.if-g-count.false at-loop.loop-i.invariant c.loop-i-test.false e
 
-same_length : tie.Need-same-length invariant_loop decreases_loop
+same_length : tie.Need-shape_of-slots-then-g invariant_loop decreases_loop
 same_length c = same c.before.before
 
-returns_2 : tie.Need-returns-2 invariant_loop decreases_loop
-returns_2 c = written c.before 1 (stop_head c.if2.true)
+returns_2 : tie.Need-returns-then-g invariant_loop decreases_loop
+returns_2 c = written c.before 1 (stop_head c.if-g.true)
 
-same_length_2 : tie.Need-same-length-2 invariant_loop decreases_loop
+same_length_2 : tie.Need-shape_of-slots invariant_loop decreases_loop
 same_length_2 c = same c.before.before
 
-returns_3 : tie.Need-returns-3 invariant_loop decreases_loop
-returns_3 c = written c.before 0 (stop_all c.if2.false)
+returns_3 : tie.Need-returns invariant_loop decreases_loop
+returns_3 c = written c.before 0 (stop_all c.if-g.false)
 
 pub emit_spec : {M : Type 1} → statement M
 emit_spec =

@@ -6,25 +6,21 @@ use Rattle.rigid.specs.FitLaws.{term_bracket, term_single, term_literal}
 use Rattle.rigid.proofs.fit_term.Statement.{statement}
 use Rattle.rigid.proofs.fit_term.Tie as tie
 
-returns : tie.Need-returns
-returns c used h = let at-term = c.before.before.before in term_bracket _ _ _ _ _ _ h at-term.get-term.ensures c.before.if1.true
+returns : tie.Need-returns-then-t-eq-OPEN
+returns c used h = term_bracket _ _ _ _ _ _ h c.get_term-u.ensures c.if-t-eq-OPEN.true
 
-returns_2 : tie.Need-returns-2
+returns_2 : tie.Need-returns-then-t-gt-CLOSE
 returns_2 c used h =
-    let at-term = c.before.before.before.before.before.before in
-    let at-start = at-term.before.before.before in
-    term_single _ _ _ _ _ _ h at-term.get-term.ensures c.before.before.if2.true at-start.requires.1.1 c.variable-accepts.ensures
+    term_single _ _ _ _ _ _ h c.get_term-u.ensures c.if-t-gt-CLOSE.true c.requires.1.1 c.variable_accepts.ensures
 
-symbol_matches_requires : tie.Need-symbol-matches-requires
+symbol_matches_requires : tie.Need-symbol_matches-requires
 symbol_matches_requires c κs =
-    let at-term = c.before.before.before.before.before in
-    let a = at-term.before.before.before.requires in
-    literal_texts _ _ _ _ _ _ _ a.0.ready.store (omega (arith, a.0.ready.inside)) c.literal.ensures at-term.get-term.ensures (omega arith) a.1.0
+    let a = c.requires in
+    literal_texts _ _ _ _ _ _ _ a.0.ready.store (omega (arith, a.0.ready.inside)) c.literal.ensures c.get_term-u.ensures (omega arith) a.1.0
 
-returns_3 : tie.Need-returns-3
+returns_3 : tie.Need-returns
 returns_3 c used h =
-    let at-term = c.before.before.before.before.before.before in
-    term_literal _ _ _ _ _ _ h at-term.get-term.ensures (omega arith) (literal_same _ _ _ _ c.symbol-matches.ensures c.before.literal.ensures)
+    term_literal _ _ _ _ _ _ h c.get_term-u.ensures (omega arith) (literal_same _ _ _ _ c.symbol_matches.ensures c.literal.ensures)
 
 pub fit_term_spec : {M : Type 1} → statement M
 fit_term_spec =

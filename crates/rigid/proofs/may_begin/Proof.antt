@@ -4,11 +4,11 @@ use Rattle.rigid.specs.SplitLaws.{begin_kinds, begin_chars}
 use Rattle.rigid.proofs.may_begin.Statement.{statement}
 use Rattle.rigid.proofs.may_begin.Tie as tie
 
-returns : tie.Need-returns
-returns c e = begin_chars _ _ _ c.before.before.before.before.before.get-term.ensures c.before.before.before.if1.true c.if2.true
+returns : tie.Need-returns-then-u-t
+returns c e = begin_chars _ _ _ c.get_term-u.ensures c.if-t-eq-CHAR.true c.if-u-t.true
 
-returns_2 : tie.Need-returns-2
-returns_2 c e = begin_kinds _ _ _ c.before.before.before.before.get-term.ensures e
+returns_2 : tie.Need-returns
+returns_2 c e = begin_kinds _ _ _ c.get_term-u.ensures e
 
 pub may_begin_spec : {M : Type 1} → statement M
 may_begin_spec = tie.close (tie.spec (λ c κs. search rules) returns returns_2)

@@ -10,28 +10,26 @@ use Rattle.rigid.specs.SplitLaws.{from_more}
 use Rattle.rigid.proofs.next_begin.Statement.{statement}
 use Rattle.rigid.proofs.next_begin.Tie as tie
 
-abbrev invariant_loop : tie.invariant_loop
+abbrev invariant_loop : tie.invariant-loop-i
 invariant_loop terms t from end i₀ i = (from ≤ i) × (i ≤ end) × ((h : ℕ) → from ≤ h → h < i → Apart (as_item t) (record_at term_layout terms h))
 
-abbrev decreases_loop : tie.decreases_loop
+abbrev decreases_loop : tie.decreases-loop-i
 decreases_loop terms t from end i₀ i = end - i
 
-loop_holds : tie.Need-loop-init invariant_loop decreases_loop
+loop_holds : tie.Need-loop-i-init invariant_loop decreases_loop
 loop_holds c = (search rules, search rules, λ h a b. absurd (omega arith))
 
-returns : tie.Need-returns invariant_loop decreases_loop
-returns c = c.before.before.before.loop.invariant
+returns : tie.Need-returns-then-may_begin invariant_loop decreases_loop
+returns c = c.loop-i.invariant
 
-loop_again : tie.Need-loop-preserved invariant_loop decreases_loop
+loop_again : tie.Need-loop-i-preserved invariant_loop decreases_loop
 loop_again c =
-    let at-loop = c.before.before.before in
-    let at-start = at-loop.before.before in
-    let o = at-loop.loop.invariant in
-    let a = at-start.args in
-    (omega arith, omega arith, from_more (λ h. Apart (as_item a.t) (record_at term_layout a.terms.now h)) _ _ o.2 (c.before.may-begin.ensures c.if1.false))
+    let o = c.loop-i.invariant in
+    let a = c.args in
+    (omega arith, omega arith, from_more (λ h. Apart (as_item a.t) (record_at term_layout a.terms.now h)) _ _ o.2 (c.may_begin.ensures c.if-may_begin.false))
 
-returns_2 : tie.Need-returns-2 invariant_loop decreases_loop
-returns_2 c = c.before.loop.invariant
+returns_2 : tie.Need-returns invariant_loop decreases_loop
+returns_2 c = c.loop-i.invariant
 
 pub next_begin_spec : {M : Type 1} → statement M
 next_begin_spec =

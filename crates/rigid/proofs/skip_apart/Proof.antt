@@ -5,23 +5,19 @@ use borrow.Author.Rules.{rules}
 use Rattle.rigid.proofs.skip_apart.Statement.{statement}
 use Rattle.rigid.proofs.skip_apart.Tie as tie
 
-returns : tie.Need-returns
+returns : tie.Need-returns-then-pattern-p
 returns c = (omega arith, search rules, λ i a b. absurd (omega arith))
 
-returns_2 : tie.Need-returns-2
+returns_2 : tie.Need-returns-then-t-gt-OPEN
 returns_2 c = (omega arith, search rules, λ i a b. absurd (omega arith))
 
-returns_3 : tie.Need-returns-3
+returns_3 : tie.Need-returns
 returns_3 c =
-    let at-if2 = c.before.before.before.before in
-    let at-get-item = at-if2.before.before in
-    let at-if1 = at-get-item.before in
-    let at-start = at-if1.before.before.before in
-    let n = c.before.next-begin.ensures in
-    let h = at-start.requires in (
+    let n = c.next_begin.ensures in
+    let h = c.requires in (
       omega (arith, n.0),
       omega (arith, n.1, h.1),
-      λ i a b. apart-at _ _ _ _ _ at-get-item.get-item.ensures at-if1.if1.false (omega (arith, at-if2.if2.false)) (n.2 _ (omega arith) (omega (arith, n.0))),
+      λ i a b. apart-at _ _ _ _ _ c.get_item-t.ensures c.if-pattern-p.false (omega (arith, c.if-t-gt-OPEN.false)) (n.2 _ (omega arith) (omega (arith, n.0))),
     )
 
 pub skip_apart_spec : {M : Type 1} → statement M

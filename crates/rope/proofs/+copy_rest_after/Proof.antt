@@ -16,6 +16,7 @@ use Rattle.rope.specs.AtLaws.{Filled, task_store, task_reaches, task_part, fille
 use Rattle.rope.proofs.copy_rest_after.Reads as self
 use Rattle.rope.proofs.copy_rest_after.Kinds as kinds
 use Rattle.rope.proofs.+copy_rest_after.Lts-copy_rest_after as lts
+use Rattle.rope.proofs.+copy_rest_after.Lts-copy_rest_after.{then-len-from, else-len-from}
 use Rattle.nodes.proofs.smaller.Reads as smaller-reads
 use Rattle.places.proofs.read_places.Reads as read-places-reads
 use Rattle.rope.proofs.records.copy_places_up.Reads as copy-places-up-reads
@@ -63,26 +64,29 @@ module _ (t : ℕ) where
   Met = lts.Joined-len-from (R t) (at t) self.Post invariant_loop decreases_loop
 
   abbrev begin : Met → Start
-  begin c = c.before
+  begin c = c.before.before.before
 
   -- ---- facts at these places ----
 
   -- the function did not call itself: the terms are as they came
   kept : (c : Met) → c.if-len-from.terms ≡ (begin c).args.terms.now
-  kept c = ⊎_elim (λ w. absurd (omega (arith, w.0.taken, (begin c).requires.1.1.0.1))) (λ w. w.1) c.if-len-from.branch
+  kept c = elim c.if-len-from.branch [
+      then-len-from w ↦ absurd (omega (arith, w.if-len-from.true, (begin c).requires.1.1.0.1))
+      | else-len-from w ↦ w.terms-is
+    ]
 
-  room : (c : Met) → Lies term_layout c.if-len-from.terms ((begin c).args.terms-used + (begin c).args.len)
+  room : (c : Met) → Lies term_layout c.if-len-from.terms ((begin c).args.terms_used + (begin c).args.len)
   room c = omega (arith, ap length (kept c), (begin c).requires.1.1.1)
 
   -- what is to be done, in the store that is there
   task : (c : Met)
       → let x = (begin c).args in
-      Task c.if-len-from.terms x.terms-used x.nodes.now (begin c).requires.1.0.used x.node x.len x.terms-used c.if-len-from.terms
+      Task c.if-len-from.terms x.terms_used x.nodes.now (begin c).requires.1.0.used x.node x.len x.terms_used c.if-len-from.terms
   task c = let asked = (begin c).requires.1 in task_after asked.1.0.0 (room c) asked.0.store asked.0.reaches
 
   -- the part of a turn
   inside : (c : lts.After-smaller-k (R t) (at t) self.Post invariant_loop decreases_loop)
-      → let at-loop = c.before in
+      → let at-loop = c.before.before in
       at-loop.loop-done.done + c.smaller-k.result ≤ (begin at-loop.before).args.len
   inside c = omega (arith, c.smaller-k.ensures)
 
@@ -98,21 +102,21 @@ module _ (t : ℕ) where
   read_places_requires : lts.Need-read_places-requires (R t) (at t) self.Post invariant_loop decreases_loop
   read_places_requires c κs =
       let part-found = c.before in
-      let at-loop = part-found.before in
+      let at-loop = part-found.before.before in
       let most = part-found.smaller-k.ensures in
       (task_part (task at-loop.before) _ _ (inside part-found), (omega (arith, most), omega (arith, most, at-loop.loop-done.invariant.0)))
 
   add_copy_places_up : lts.Need-overflow_add-terms_used (R t) (at t) self.Post invariant_loop decreases_loop
   add_copy_places_up c =
-      let part-found = c.before in
-      let met = part-found.before in
+      let part-found = c.before.before.before.before.before in
+      let met = part-found.before.before.before in
       omega (arith, inside part-found, task_short (task met), (begin met).requires.1.1.0.0)
 
   copy_places_up_requires : lts.Need-copy_places_up-requires (R t) (at t) self.Post invariant_loop decreases_loop
   copy_places_up_requires c κs =
-      let read = c.before in
-      let part-found = read.before in
-      let at-loop = part-found.before in
+      let read = c.before.before.before in
+      let part-found = read.before.before in
+      let at-loop = part-found.before.before in
       let asked = task at-loop.before in
       let l = filled-length (at-loop.loop-done.invariant.2 _ asked) in
       let low = part_low _ _ (task_store asked) (task_reaches asked _ _ (inside part-found)) _ _ read.read_places.ensures in (
@@ -122,25 +126,25 @@ module _ (t : ℕ) where
 
   add_done : lts.Need-overflow_add-done (R t) (at t) self.Post invariant_loop decreases_loop
   add_done c =
-      let part-found = c.before in
-      omega (arith, inside part-found, task_short (task part-found.before))
+      let part-found = c.before.before.before.before.before.before.before.before in
+      omega (arith, inside part-found, task_short (task part-found.before.before.before))
 
   loop_less : lts.Need-loop-done-smaller (R t) (at t) self.Post invariant_loop decreases_loop
   loop_less c =
-      let part-found = c.before in
+      let part-found = c.before.before.before.before.before.before.before.before in
       omega (arith, inside part-found, part-found.smaller-k.ensures)
 
   loop_again : lts.Need-loop-done-preserved (R t) (at t) self.Post invariant_loop decreases_loop
   loop_again c =
-      let copied = c.before in
-      let read = copied.before in
-      let part-found = read.before in
-      let at-loop = part-found.before in (
-        read.read_places.ensures.1 ∙ at-loop.loop-done.invariant.0,
+      let copied = c.before.before in
+      let read = copied.before.before.before.before in
+      let part-found = read.before.before in
+      (
+        read.read_places.ensures.1 ∙ part-found.loop-done.invariant.0,
         inside part-found,
         λ used asked.
-            let so_far = at-loop.loop-done.invariant.2 used asked in
-            filled_next so_far _ (inside part-found) _ _ read.read_places.ensures at-loop.loop-done.terms (filled-kept so_far (omega arith)) _ refl
+            let so_far = part-found.loop-done.invariant.2 used asked in
+            filled_next so_far _ (inside part-found) _ _ read.read_places.ensures part-found.loop-done.terms (filled-kept so_far (omega arith)) _ refl
             copied.copy_places_up.ensures,
       )
 
@@ -155,7 +159,7 @@ module _ (t : ℕ) where
       let met = at-loop.before in
       let x = (begin met).args in
       let few = (begin met).requires.1.1.0.0 in
-      subst (λ w. CopiedAfter x.nodes.now x.terms-used x.node x.len x.from x.len w at-loop.loop-done.terms) (kept met)
+      subst (λ w. CopiedAfter x.nodes.now x.terms_used x.node x.len x.from x.len w at-loop.loop-done.terms) (kept met)
       λ used store reaches. filled-all (at-loop.loop-done.invariant.2 used (task_after few (room met) store reaches)) (omega arith)
 
 pub +copy_rest_after_spec : {M : Type 1} → statement M

@@ -17,6 +17,7 @@ use Rattle.rope.specs.AtLaws.{Filled, task_store, task_reaches, task_part, fille
 use Rattle.rope.proofs.copy_rest_out.Reads as self
 use Rattle.rope.proofs.copy_rest_out.Kinds as kinds
 use Rattle.rope.proofs.+copy_rest_out.Lts-copy_rest_out as lts
+use Rattle.rope.proofs.+copy_rest_out.Lts-copy_rest_out.{then-len-from, else-len-from}
 use Rattle.nodes.proofs.smaller.Reads as smaller-reads
 use Rattle.places.proofs.read_places.Reads as read-places-reads
 use Rattle.rope.proofs.records.copy_places.Reads as copy-places-reads
@@ -64,13 +65,16 @@ module _ (t : ℕ) where
   Met = lts.Joined-len-from (R t) (at t) self.Post invariant_loop decreases_loop
 
   abbrev begin : Met → Start
-  begin c = c.before
+  begin c = c.before.before.before.before
 
   -- ---- facts at these places ----
 
   -- the function did not call itself: the buffer is as it came
   kept : (c : Met) → c.if-len-from.work ≡ (begin c).args.work.now
-  kept c = ⊎_elim (λ w. absurd (omega (arith, w.0.taken, (begin c).requires.1.1.0))) (λ w. w.1) c.if-len-from.branch
+  kept c = elim c.if-len-from.branch [
+      then-len-from w ↦ absurd (omega (arith, w.if-len-from.true, (begin c).requires.1.1.0))
+      | else-len-from w ↦ w.work-is
+    ]
 
   room : (c : Met) → Lies term_layout c.if-len-from.work (begin c).args.len
   room c = omega (arith, ap length (kept c), (begin c).requires.1.1.1)
@@ -83,7 +87,7 @@ module _ (t : ℕ) where
 
   -- the part of a turn
   inside : (c : lts.After-smaller-k (R t) (at t) self.Post invariant_loop decreases_loop)
-      → let at-loop = c.before in
+      → let at-loop = c.before.before in
       at-loop.loop-done.done + c.smaller-k.result ≤ (begin at-loop.before).args.len
   inside c = omega (arith, c.smaller-k.ensures)
 
@@ -99,15 +103,15 @@ module _ (t : ℕ) where
   read_places_requires : lts.Need-read_places-requires (R t) (at t) self.Post invariant_loop decreases_loop
   read_places_requires c κs =
       let part-found = c.before in
-      let at-loop = part-found.before in
+      let at-loop = part-found.before.before in
       let most = part-found.smaller-k.ensures in
       (task_part (task at-loop.before) _ _ (inside part-found), (omega (arith, most), omega (arith, most, at-loop.loop-done.invariant.0)))
 
   copy_places_requires : lts.Need-copy_places-requires (R t) (at t) self.Post invariant_loop decreases_loop
   copy_places_requires c κs =
-      let read = c.before in
-      let part-found = read.before in
-      let at-loop = part-found.before in
+      let read = c.before.before.before in
+      let part-found = read.before.before in
+      let at-loop = part-found.before.before in
       let asked = task at-loop.before in
       let l = filled-length (at-loop.loop-done.invariant.2 _ asked) in
       let low = part_low _ _ (task_store asked) (task_reaches asked _ _ (inside part-found)) _ _ read.read_places.ensures in (
@@ -117,20 +121,20 @@ module _ (t : ℕ) where
 
   add_done : lts.Need-overflow_add-done (R t) (at t) self.Post invariant_loop decreases_loop
   add_done c =
-      let part-found = c.before in
-      omega (arith, inside part-found, task_short (task part-found.before))
+      let part-found = c.before.before.before.before.before.before.before.before in
+      omega (arith, inside part-found, task_short (task part-found.before.before.before))
 
   loop_less : lts.Need-loop-done-smaller (R t) (at t) self.Post invariant_loop decreases_loop
   loop_less c =
-      let part-found = c.before in
+      let part-found = c.before.before.before.before.before.before.before.before in
       omega (arith, inside part-found, part-found.smaller-k.ensures)
 
   loop_again : lts.Need-loop-done-preserved (R t) (at t) self.Post invariant_loop decreases_loop
   loop_again c =
-      let copied = c.before in
-      let read = copied.before in
-      let part-found = read.before in
-      let at-loop = part-found.before in
+      let copied = c.before.before in
+      let read = copied.before.before.before.before in
+      let part-found = read.before.before in
+      let at-loop = part-found.before.before in
       let store = (begin at-loop.before).args.terms.now in (
         read.read_places.ensures.1 ∙ at-loop.loop-done.invariant.0,
         inside part-found,

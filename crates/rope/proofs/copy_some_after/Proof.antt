@@ -25,7 +25,7 @@ decreases_loop terms₀ terms-used nodes node len stack₀ at₀ done₀ terms s
 -- what is to be done, in a store of the words
 abbrev Asked : tie.Start invariant_loop decreases_loop → ℕ → Type 0
 Asked start used =
-    Task start.args.terms.now start.args.terms-used start.args.nodes.now used start.args.node start.args.len start.args.terms-used start.args.terms.now
+    Task start.args.terms.now start.args.terms_used start.args.nodes.now used start.args.node start.args.len start.args.terms_used start.args.terms.now
 
 -- in the store that is there
 task : (start : tie.Start invariant_loop decreases_loop) → Asked start start.requires.0.used
@@ -33,40 +33,40 @@ task start = let asked = start.requires in task_after asked.1.0 asked.1.1 asked.
 
 -- the piece is taken down to a run
 run : (c : tie.Else-at-eq0 invariant_loop decreases_loop) {used : ℕ}
-    → let at-run = c.before in
-    let at-loop = at-run.before in
-    let start = at-loop.before in
+    → let at-run = c.before.before in
+    let at-loop = at-run.before.before.before in
+    let start = at-loop.before.before.before.before in
     Asked start used
-    → ToRun (nodes_in start.args.nodes.now used) (rest_of at-loop.loop-done.at at-loop.loop-done.stack) (rest_of at-run.to_run-at.result at-run.to_run-at.new.1.0)
+    → ToRun (nodes_in start.args.nodes.now used) (rest_of at-loop.loop-done.at at-loop.loop-done.stack) (rest_of at-run.to_run-at.result at-run.to_run-at.new.stack)
 run c asked =
     c.to_run-at.ensures.1 (omega (arith, c.if-at-eq0.false)) _ asked.store ((c.loop-done.invariant.1 _ asked).along.ready c.loop-done-test.true)
 
 -- the node that it begins in is there
 below : (c : tie.Else-at-eq0 invariant_loop decreases_loop) {used : ℕ}
-    → let at-run = c.before in
-    Asked at-run.before used
+    → let at-run = c.before.before in
+    Asked at-run.before.before.before.before.before.before.before used
     → at-run.to_run-at.result.node < used
 below c asked = rw decode-length at (run c asked).goes.ready.low
 
 -- the run of a turn
 found : (c : tie.After-front-r invariant_loop decreases_loop)
     → let x = c.args in
-    Found x.terms-used x.len c.loop-done.done (rest_of c.to_run-at.result c.to_run-at.new.1.0) (as_run c.front-r.result)
+    Found x.terms_used x.len c.loop-done.done (rest_of c.to_run-at.result c.to_run-at.new.stack) (as_run c.front-r.result)
 found c =
     let has-fuel = c.before in
-    let in-loop = has-fuel.before in
-    let asked = task in-loop.before in
+    let in-loop = has-fuel.before.before.before.before in
+    let asked = task in-loop.before.before.before.before.before in
     let so_far = done_run (in-loop.loop-done.invariant.1 _ asked) (run has-fuel asked).goes in
     done_found so_far in-loop.loop-done-test.true (run has-fuel asked).begins (c.front-r.ensures _ (below has-fuel asked))
 
 -- its terms lie in the slice
 there : (c : tie.After-front-r invariant_loop decreases_loop)
     → let x = c.args in
-    Lies term_layout x.terms.now (x.terms-used + x.len)
-there c = (task c.before).room
+    Lies term_layout x.terms.now (x.terms_used + x.len)
+there c = let at-loop = c.before.before.before.before.before.before in (task at-loop.before.before.before.before).room
 
 whole_requires : tie.Need-whole-at-requires invariant_loop decreases_loop
-whole_requires c κs = task_short (task c.before)
+whole_requires c κs = task_short (task c.before.before)
 
 loop_holds : tie.Need-loop-done-init invariant_loop decreases_loop
 loop_holds c = rw c.whole-at.ensures (omega arith, λ used asked. done_none asked _)
@@ -75,20 +75,20 @@ to_run_requires : tie.Need-to_run-at-requires invariant_loop decreases_loop
 to_run_requires c κs =
     let in-loop = c.before in
     let inv = in-loop.loop-done.invariant in
-    let asked = task in-loop.before in
+    let asked = task in-loop.before.before.before.before.before in
     (record { used = _; store = asked.store; ready = (inv.1 _ asked).along.ready in-loop.loop-done-test.true }, inv.0)
 
 -- ---- the fuel is spent ----
 
 same_length : tie.Need-shape_of-terms-then-at-eq0 invariant_loop decreases_loop
 same_length c =
-    let at-loop = c.before in
-    done_length (at-loop.loop-done.invariant.1 _ (task at-loop.before))
+    let at-loop = c.before.before.before.before.before in
+    done_length (at-loop.loop-done.invariant.1 _ (task at-loop.before.before.before.before))
 
 returns : tie.Need-returns-then-at-eq0 invariant_loop decreases_loop
 returns c =
-    let at-loop = c.before in
-    let start = at-loop.before in
+    let at-loop = c.before.before.before.before.before in
+    let start = at-loop.before.before.before.before in
     let asked = start.requires.1 in (
       (at-loop.loop-done.invariant.1 _ (task start)).along.most,
       λ used store reaches. rw add-zero (at-loop.loop-done.invariant.1 used (task_after asked.0 asked.1 store reaches)).words,
@@ -98,28 +98,28 @@ returns c =
 
 front_requires : tie.Need-front-r-requires invariant_loop decreases_loop
 front_requires c κs =
-    let asked = task c.before in
+    let asked = task c.before.before.before.before.before.before.before.before.before in
     record { used = _; store = asked.store; low = below c asked; begins = (run c asked).begins }
 
 copy_run_up_requires : tie.Need-copy_run_up-requires invariant_loop decreases_loop
 copy_run_up_requires c κs =
-    let at_front = c.before in
+    let at_front = c.before.before.before in
     let next = found at_front in
-    let at-loop = at_front.before in
-    let asked = task at-loop.before in
+    let at-loop = at_front.before.before.before.before.before.before in
+    let asked = task at-loop.before.before.before.before in
     let l = done_length (at-loop.loop-done.invariant.1 _ asked) in
     (omega (arith, asked.there), omega (arith, asked.room))
 
 past_requires : tie.Need-past-at-requires invariant_loop decreases_loop
 past_requires c κs =
-    let at_front = c.before in
+    let at_front = c.before.before.before.before.before.before.before.before in
     let next = found at_front in
     (next.within, next.near, at_front.to_run-at.ensures.0, omega (arith, next))
 
 loop_again : tie.Need-loop-done-preserved invariant_loop decreases_loop
 loop_again c =
-    let copied = c.before in
-    let at_front = copied.before in
+    let copied = c.before.before.before.before.before in
+    let at_front = copied.before.before.before.before in
     let has-fuel = at_front.before in
     (
       c.past-at.ensures.0,
@@ -134,7 +134,7 @@ loop_again c =
 same_length_2 : tie.Need-shape_of-terms invariant_loop decreases_loop
 same_length_2 c =
     let at-loop = c.before in
-    done_length (at-loop.loop-done.invariant.1 _ (task at-loop.before))
+    done_length (at-loop.loop-done.invariant.1 _ (task at-loop.before.before.before.before))
 
 returns_2 : tie.Need-returns invariant_loop decreases_loop
 returns_2 c =
@@ -153,14 +153,14 @@ copy_some_after_spec =
     same_length
     returns
     front_requires
-    (λ c. omega (arith, found c.before, there c.before))
-    (λ c. omega (arith, found c.before, there c.before))
-    (λ c. omega (arith, found c.before, there c.before))
-    (λ c. omega (arith, found c.before, there c.before))
+    (λ c. omega (arith, found c.before.before, there c.before.before))
+    (λ c. omega (arith, found c.before.before, there c.before.before))
+    (λ c. omega (arith, found c.before.before, there c.before.before))
+    (λ c. omega (arith, found c.before.before.before, there c.before.before.before))
     copy_run_up_requires
-    (λ c. omega (arith, found c.before))
+    (λ c. omega (arith, found c.before.before.before.before.before.before.before))
     past_requires
-    (λ c. omega (arith, found c.before))
+    (λ c. omega (arith, found c.before.before.before.before.before.before.before.before.before))
     loop_again
     same_length_2
     returns_2)

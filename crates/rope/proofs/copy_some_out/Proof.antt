@@ -32,29 +32,29 @@ task start = let asked = start.requires in task_out asked.0.below asked.0.reache
 
 -- the piece is taken down to a run
 run : (c : tie.Else-at-eq0 invariant_loop decreases_loop) {used : ℕ}
-    → let at-run = c in
-    let at-loop = at-run.before in
-    let start = at-loop.before in
-    Asked start.before.before.before.before.before.before.before used
-    → ToRun (nodes_in start.args.nodes.now used) (rest_of at-loop.loop-done.at at-loop.loop-done.stack) (rest_of at-run.to_run-at.result at-run.to_run-at.new.1.0)
+    → let at-run = c.before.before in
+    let at-loop = at-run.before.before.before in
+    let start = at-loop.before.before.before.before.before in
+    Asked start used
+    → ToRun (nodes_in start.args.nodes.now used) (rest_of at-loop.loop-done.at at-loop.loop-done.stack) (rest_of at-run.to_run-at.result at-run.to_run-at.new.stack)
 run c asked =
     c.to_run-at.ensures.1 (omega (arith, c.if-at-eq0.false)) _ asked.store ((c.loop-done.invariant.1 _ asked).along.ready c.loop-done-test.true)
 
 -- the node that it begins in is there
 below : (c : tie.Else-at-eq0 invariant_loop decreases_loop) {used : ℕ}
-    → let at-run = c.before in
-    Asked at-run.before.before.before.before.before.before.before.before.before used
+    → let at-run = c.before.before in
+    Asked at-run.before.before.before.before.before.before.before.before used
     → at-run.to_run-at.result.node < used
 below c asked = rw decode-length at (run c asked).goes.ready.low
 
 -- the run of a turn
 found : (c : tie.After-front-r invariant_loop decreases_loop)
     → let x = c.args in
-    Found (count term_layout x.terms.now) x.len c.loop-done.done (rest_of c.to_run-at.result c.to_run-at.new.1.0) (as_run c.front-r.result)
+    Found (count term_layout x.terms.now) x.len c.loop-done.done (rest_of c.to_run-at.result c.to_run-at.new.stack) (as_run c.front-r.result)
 found c =
     let has-fuel = c.before in
-    let in-loop = has-fuel.before in
-    let asked = task in-loop.before in
+    let in-loop = has-fuel.before.before.before.before in
+    let asked = task in-loop.before.before.before.before.before.before in
     let so_far = done_run (in-loop.loop-done.invariant.1 _ asked) (run has-fuel asked).goes in
     done_found so_far in-loop.loop-done-test.true (run has-fuel asked).begins (c.front-r.ensures _ (below has-fuel asked))
 
@@ -62,7 +62,7 @@ found c =
 there : (c : tie.After-front-r invariant_loop decreases_loop)
     → let terms = c.args.terms.now in
     Lies term_layout terms (count term_layout terms)
-there c = (task c.before.before.before.before.before.before.before.before.before.before.before).there
+there c = let at-loop = c.before.before.before.before.before.before in (task at-loop.before.before.before.before.before).there
 
 whole_requires : tie.Need-whole-at-requires invariant_loop decreases_loop
 whole_requires c κs = task_short (task c.before.before.before)
@@ -81,15 +81,15 @@ to_run_requires c κs =
 
 same_length : tie.Need-shape_of-work-then-at-eq0 invariant_loop decreases_loop
 same_length c =
-    let at-loop = c.before in
-    done_length (at-loop.loop-done.invariant.1 _ (task at-loop.before.before.before.before.before.before.before.before.before))
+    let at-loop = c.before.before.before.before.before in
+    done_length (at-loop.loop-done.invariant.1 _ (task at-loop.before.before.before.before.before))
 
 returns : tie.Need-returns-then-at-eq0 invariant_loop decreases_loop
 unfolding records
 returns c =
-    let at-loop = c.before in
-    let start = at-loop.before in
-    ((at-loop.loop-done.invariant.1 _ (task start.before.before.before.before.before.before.before.before)).along.most, λ used below reaches. (at-loop.loop-done.invariant.1 used (task_out below reaches start.requires.1)).words)
+    let at-loop = c.before.before.before.before.before in
+    let start = at-loop.before.before.before.before.before in
+    ((at-loop.loop-done.invariant.1 _ (task start)).along.most, λ used below reaches. (at-loop.loop-done.invariant.1 used (task_out below reaches start.requires.1)).words)
 
 -- ---- a run ----
 
@@ -100,23 +100,23 @@ front_requires c κs =
 
 copy_run_requires : tie.Need-copy_run-requires invariant_loop decreases_loop
 copy_run_requires c κs =
-    let at_front = c.before in
+    let at_front = c.before.before.before in
     let next = found at_front in
-    let at-loop = at_front.before in
-    let asked = task at-loop.before in
+    let at-loop = at_front.before.before.before.before.before.before in
+    let asked = task at-loop.before.before.before.before.before in
     let l = done_length (at-loop.loop-done.invariant.1 _ asked) in
     (omega (arith, asked.there), omega (arith, asked.room))
 
 past_requires : tie.Need-past-at-requires invariant_loop decreases_loop
 past_requires c κs =
-    let at_front = c.before in
+    let at_front = c.before.before.before.before.before.before.before.before in
     let next = found at_front in
     (next.within, next.near, at_front.to_run-at.ensures.0, omega (arith, next))
 
 loop_again : tie.Need-loop-done-preserved invariant_loop decreases_loop
 loop_again c =
-    let copied = c.before in
-    let at_front = copied.before in
+    let copied = c.before.before.before.before.before in
+    let at_front = copied.before.before.before.before in
     let has-fuel = at_front.before in
     (
       c.past-at.ensures.0,
@@ -150,13 +150,13 @@ copy_some_out_spec =
     same_length
     returns
     front_requires
-    (λ c. omega (arith, found c.before, there c.before))
-    (λ c. omega (arith, found c.before, there c.before))
-    (λ c. omega (arith, found c.before, there c.before))
+    (λ c. omega (arith, found c.before.before, there c.before.before))
+    (λ c. omega (arith, found c.before.before, there c.before.before))
+    (λ c. omega (arith, found c.before.before.before, there c.before.before.before))
     copy_run_requires
-    (λ c. omega (arith, found c.before))
+    (λ c. omega (arith, found c.before.before.before.before.before.before.before))
     past_requires
-    (λ c. omega (arith, found c.before))
+    (λ c. omega (arith, found c.before.before.before.before.before.before.before.before.before))
     loop_again
     same_length_2
     returns_2)

@@ -39,32 +39,32 @@ Asked start names w over used =
 
 -- the places are those of terms with numbers
 known : (c : tie.After-read_places-in-loop-done invariant_loop decreases_loop) {names w : List ℕ} {over used : ℕ}
-    → let first = c in
-    let start = first.before in
-    Asked start.before.before.before.before.before.before.before.before names w over used
-    → PlacesKnown names w over start.args.known.now first.read_places.new.1.1.1.1.0 c.read_places-in-loop-done.new.1.1.1.1.0 first.smaller-k.result
+    → let first = c.before.before.before in
+    let start = first.before.before.before.before.before.before.before in
+    Asked start names w over used
+    → PlacesKnown names w over start.args.known.now first.read_places.new.places c.read_places-in-loop-done.new.places first.smaller-k.result
 known c asked =
-    let first = c.before in
-    let chosen = first.before in
+    let first = c.before.before.before in
+    let chosen = first.before.before in
     let inv = chosen.loop-done.invariant in
     let (some, few, fits) = taken chosen in
     parts_known asked _ _ fits _ _ _ _ first.read_places.ensures c.read_places-in-loop-done.ensures (omega arith) (omega arith)
 
 -- the answer for them is that for the next terms
 next : (c : tie.After-equal_at invariant_loop decreases_loop) {b : Bool} → c.equal_at.result ≡ b → {names w : List ℕ} {over used : ℕ}
-    → let chosen = c.before in
-    let at-loop = chosen.before in
-    let start = at-loop.before in
+    → let chosen = c.before.before.before.before.before.before.before.before.before in
+    let at-loop = chosen.before.before in
+    let start = at-loop.before.before.before in
     let x = start.args in
-    Asked start.before.before.before.before.before.before.before.before.before.before.before names w over used
+    Asked start names w over used
     → equal_from (values_in names w over) (nodes_in x.nodes.now used) x.f x.g x.n x.from
     ≡ b && equal_from (values_in names w over) (nodes_in x.nodes.now used) x.f x.g x.n (at-loop.loop-done.done + chosen.smaller-k.result)
 next c answer asked =
-    let second = c.before in
-    let first = second.before in
-    let chosen = first.before in
+    let second = c.before.before.before.before in
+    let first = second.before.before.before in
+    let chosen = first.before.before in
     let inv = chosen.loop-done.invariant in
-    let (some, few, fits) = taken chosen.before.before.before.before.before.before in
+    let (some, few, fits) = taken chosen in
     inv.3 _ _ _ _ asked
     ∙ parts_next asked _ _ fits _ _ _ _ first.read_places.ensures second.read_places-in-loop-done.ensures (omega arith) (omega arith) answer
     (c.equal_at.ensures _ _ _ (known second asked))
@@ -81,14 +81,14 @@ read_places_requires c κs =
 
 read_places_requires_2 : tie.Need-read_places-requires-in-loop-done invariant_loop decreases_loop
 read_places_requires_2 c κs =
-    let chosen = c.before in
+    let chosen = c.before.before.before.before in
     let asked = chosen.requires.1.4 in
-    let (some, few, fits) = taken chosen.before.before.before in
+    let (some, few, fits) = taken chosen in
     (right-shows asked _ _ fits, (few, omega (arith, chosen.loop-done.invariant.2)))
 
 equal_at_requires : tie.Need-equal_at-requires invariant_loop decreases_loop
 equal_at_requires c κs =
-    let second = c.before in
+    let second = c.before.before.before in
     (_, _, _, known second second.requires.1.4)
 
 returns : tie.Need-returns-then-not-equal_at invariant_loop decreases_loop
@@ -96,8 +96,8 @@ returns c names w over used asked = sym (next c.before (not-true _ c.if-not-equa
 
 add_done : tie.Need-overflow_add-done invariant_loop decreases_loop
 add_done c =
-    let chosen = c.before in
-    omega (arith, taken chosen.before.before.before.before.before.before.before.before.before, chosen.ranges.n)
+    let chosen = c.before.before.before.before.before.before.before.before.before.before in
+    omega (arith, taken chosen, chosen.ranges.n)
 
 loop_less : tie.Need-loop-done-smaller invariant_loop decreases_loop
 loop_less c = omega (arith, taken c.before.before.before.before.before.before.before.before.before.before)
@@ -105,11 +105,11 @@ loop_less c = omega (arith, taken c.before.before.before.before.before.before.be
 loop_again : tie.Need-loop-done-preserved invariant_loop decreases_loop
 loop_again c =
     let compared = c.before in
-    let second = compared.before in
-    let first = second.before in
-    let chosen = first.before in
+    let second = compared.before.before.before.before in
+    let first = second.before.before.before in
+    let chosen = first.before.before in
     let inv = chosen.loop-done.invariant in (
-      (taken chosen.before.before.before.before.before.before).2,
+      (taken chosen).2,
       first.read_places.ensures.1 ∙ inv.1,
       second.read_places-in-loop-done.ensures.1 ∙ inv.2,
       λ names w over used asked. next compared (not-false _ c.if-not-equal_at.false-raw) asked,

@@ -37,57 +37,57 @@ store start {over} asked = record { terms = over; few_terms = asked.few; store =
 
 -- the pieces are taken down to runs, as the fuel is not spent
 run : (c : tie.Else-smaller-eq0 invariant_loop decreases_loop) {over used : ℕ}
-    → let first = c.before in
-    let at-loop = first in
-    let start = at-loop.before in
-    Asked start.before.before.before.before.before.before.before.before.before.before over used
-    → ToRun (nodes_in start.args.nodes.now used) (rest_of at-loop.loop-done.a at-loop.loop-done.f-stack) (rest_of first.to_run-a.result first.to_run-a.new.1.0)
+    → let first = c.before.before.before.before in
+    let at-loop = first.before.before.before in
+    let start = at-loop.before.before.before.before.before.before in
+    Asked start over used
+    → ToRun (nodes_in start.args.nodes.now used) (rest_of at-loop.loop-done.a at-loop.loop-done.f_stack) (rest_of first.to_run-a.result first.to_run-a.new.stack)
 run c asked =
-    let first = c.before in
-    let in-loop = first.before in
+    let first = c.before.before.before.before in
+    let in-loop = first.before.before in
     let at-loop = in-loop.before in
-    first.to_run-a.ensures.1 (omega (arith, c.smaller.ensures, c.if-smaller-eq0.false)) _ (store at-loop.before asked)
+    first.to_run-a.ensures.1 (omega (arith, c.smaller.ensures, c.if-smaller-eq0.false)) _ (store at-loop.before.before.before.before.before.before asked)
     ((at-loop.loop-done.invariant.2 _ _ asked).left.ready in-loop.loop-done-test.true)
 
 run_2 : (c : tie.Else-smaller-eq0 invariant_loop decreases_loop) {over used : ℕ}
-    → let second = c.before in
-    let at-loop = second in
-    let start = at-loop.before in
-    Asked start.before.before.before.before.before.before.before.before.before.before over used
-    → ToRun (nodes_in start.args.nodes.now used) (rest_of at-loop.loop-done.b at-loop.loop-done.g-stack) (rest_of second.to_run-b.result second.to_run-b.new.1.0)
+    → let second = c.before.before in
+    let at-loop = second.before.before.before.before.before in
+    let start = at-loop.before.before.before.before.before.before in
+    Asked start over used
+    → ToRun (nodes_in start.args.nodes.now used) (rest_of at-loop.loop-done.b at-loop.loop-done.g_stack) (rest_of second.to_run-b.result second.to_run-b.new.stack)
 run_2 c asked =
-    let second = c.before in
-    let in-loop = second.before in
+    let second = c.before.before in
+    let in-loop = second.before.before.before.before in
     let at-loop = in-loop.before in
-    second.to_run-b.ensures.1 (omega (arith, c.smaller.ensures, c.if-smaller-eq0.false)) _ (store at-loop.before asked)
+    second.to_run-b.ensures.1 (omega (arith, c.smaller.ensures, c.if-smaller-eq0.false)) _ (store at-loop.before.before.before.before.before.before asked)
     ((at-loop.loop-done.invariant.2 _ _ asked).right.ready in-loop.loop-done-test.true)
 
 -- both pieces begin with a run
 both : (c : tie.Else-smaller-eq0 invariant_loop decreases_loop) {over used : ℕ}
-    → let second = c.before in
-    let first = second in
-    let at-loop = first.before in
-    let start = at-loop.before in
+    → let second = c.before.before in
+    let first = second.before.before in
+    let at-loop = first.before.before.before in
+    let start = at-loop.before.before.before.before.before.before in
     let x = start.args in
-    Asked start.before.before.before.before.before.before.before.before.before over used
+    Asked start over used
     → Fronts (values_in x.names.now x.terms.now over) (nodes_in x.nodes.now used) x.f x.g x.n
-    (rest_of first.to_run-a.result first.to_run-a.new.1.0) (rest_of second.to_run-b.result second.to_run-b.new.1.0) at-loop.loop-done.done
+    (rest_of first.to_run-a.result first.to_run-a.new.stack) (rest_of second.to_run-b.result second.to_run-b.new.stack) at-loop.loop-done.done
 both c asked = fronts_run (c.loop-done.invariant.2 _ _ asked) (run c asked).goes (run_2 c asked).goes
 
 -- the two runs of a turn
 pair : (c : tie.After-smaller-k invariant_loop decreases_loop) {over used : ℕ}
     → let runs = c.before in
-    let second = runs.before in
-    let first = second.before in
-    let at-loop = first.before in
-    let start = at-loop.before in
+    let second = runs.before.before.before.before in
+    let first = second.before.before in
+    let at-loop = first.before.before.before in
+    let start = at-loop.before.before.before.before.before.before in
     let x = start.args in
-    Asked start.before.before.before.before.before.before.before.before.before.before.before over used
+    Asked start over used
     → Pair (values_in x.names.now x.terms.now over) (nodes_in x.nodes.now used) x.f x.g x.n at-loop.loop-done.done
     first.to_run-a.result.left second.to_run-b.result.left runs.front-r.result.start runs.front-s.result.start c.smaller-k.result
 pair c asked =
     let runs = c.before in
-    let fuelled = runs.before in
+    let fuelled = runs.before.before in
     let low = rw decode-length at (run fuelled asked).goes.ready.low in
     let low' = rw decode-length at (run_2 fuelled asked).goes.ready.low in
     fronts_pair (both fuelled asked) fuelled.loop-done-test.true (run fuelled asked).begins (runs.front-r.ensures _ low) (run_2 fuelled asked).begins
@@ -104,11 +104,11 @@ pair_here c = pair c c.requires.2
 
 -- they lie among the terms
 lies : (c : tie.After-cut-in-loop-done invariant_loop decreases_loop) {over used : ℕ}
-    → let in-loop = c.before in
-    let start = in-loop.before in
-    Asked start.before.before.before.before.before.before.before.before.before.before.before.before.before.before.before.before over used → RunsIn start.args.names.now start.args.terms.now (as_run c.cut.result) (as_run c.cut-in-loop-done.result) over
+    → let in-loop = c.before.before.before.before.before.before.before.before.before.before.before in
+    let start = in-loop.before.before.before.before.before.before.before in
+    Asked start over used → RunsIn start.args.names.now start.args.terms.now (as_run c.cut.result) (as_run c.cut-in-loop-done.result) over
 lies c asked =
-    let p = pair c.before asked in
+    let p = pair c.before.before asked in
     rw (c.cut.ensures, c.cut-in-loop-done.ensures) (record {
       store = asked.terms;
       few = asked.few;
@@ -118,10 +118,10 @@ lies c asked =
 
 -- what comparing them tells
 told : (c : tie.After-equal_runs_within invariant_loop decreases_loop) {over used : ℕ}
-    → let chosen = c.before in
-    let at-loop = chosen.before in
-    let start = at-loop.before in
-    Asked start.before.before.before.before.before.before.before.before.before.before.before.before.before.before.before.before over used
+    → let chosen = c.before.before.before in
+    let at-loop = chosen.before.before.before.before.before.before.before.before.before.before in
+    let start = at-loop.before.before.before.before.before.before in
+    Asked start over used
     → Tells at-loop.loop-done.left c.equal_runs_within.result
     (spec_equal_runs start.args.names.now start.args.terms.now over chosen.front-r.result.start chosen.smaller-k.result chosen.front-s.result.start chosen.smaller-k.result)
 told c asked =
@@ -142,34 +142,34 @@ to_run_requires c κs =
     let in-loop = c.before in
     let at-loop = in-loop.before in
     let inv = at-loop.loop-done.invariant in
-    let start = at-loop.before in
+    let start = at-loop.before.before.before.before.before.before in
     let asked = start.requires.2 in
-    (record { used = _; store = store start.before.before.before.before.before asked; ready = (inv.2 _ _ asked).left.ready in-loop.loop-done-test.true }, inv.0)
+    (record { used = _; store = store start asked; ready = (inv.2 _ _ asked).left.ready in-loop.loop-done-test.true }, inv.0)
 
 to_run_requires_2 : tie.Need-to_run-b-requires invariant_loop decreases_loop
 to_run_requires_2 c κs =
-    let in-loop = c.before in
+    let in-loop = c.before.before.before in
     let at-loop = in-loop.before in
     let inv = at-loop.loop-done.invariant in
-    let start = at-loop.before in
+    let start = at-loop.before.before.before.before.before.before in
     let asked = start.requires.2 in
-    (record { used = _; store = store start.before.before.before.before.before.before.before asked; ready = (inv.2 _ _ asked).right.ready in-loop.loop-done-test.true }, inv.1)
+    (record { used = _; store = store start asked; ready = (inv.2 _ _ asked).right.ready in-loop.loop-done-test.true }, inv.1)
 
 returns : tie.Need-returns-then-smaller-eq0 invariant_loop decreases_loop
 returns c over used asked = fronts_some (c.loop-done.invariant.2 over used asked)
 
 front_requires : tie.Need-front-r-requires invariant_loop decreases_loop
 front_requires c κs =
-    let start = c.before in
+    let start = c.before.before.before.before.before.before.before.before.before.before.before.before.before in
     let asked = start.requires.2 in
-    record { used = _; store = store start.before.before.before.before.before.before.before.before.before.before.before.before asked; low = rw decode-length at (run c asked).goes.ready.low; begins = (run c asked).begins }
+    record { used = _; store = store start asked; low = rw decode-length at (run c asked).goes.ready.low; begins = (run c asked).begins }
 
 front_requires_2 : tie.Need-front-s-requires invariant_loop decreases_loop
 front_requires_2 c κs =
     let fuelled = c.before in
-    let start = fuelled.before in
+    let start = fuelled.before.before.before.before.before.before.before.before.before.before.before.before.before in
     let asked = start.requires.2 in
-    record { used = _; store = store start.before.before.before.before.before.before.before.before.before.before.before.before asked; low = rw decode-length at (run_2 fuelled asked).goes.ready.low; begins = (run_2 fuelled asked).begins }
+    record { used = _; store = store start asked; low = rw decode-length at (run_2 fuelled asked).goes.ready.low; begins = (run_2 fuelled asked).begins }
 
 equal_runs_within_requires : tie.Need-equal_runs_within-requires invariant_loop decreases_loop
 equal_runs_within_requires c κs =
@@ -178,8 +178,8 @@ equal_runs_within_requires c κs =
 returns_2 : tie.Need-returns-in-Different invariant_loop decreases_loop
 returns_2 c over used asked =
     let compared = c.before in
-    let chosen = compared.before in
-    fronts_differ _ _ _ (pair chosen asked) (both chosen.before asked) (tells_different (told compared asked) c.in-Different.is).0
+    let chosen = compared.before.before in
+    fronts_differ _ _ _ (pair chosen.before asked) (both chosen.before.before.before.before asked) (tells_different (told compared asked) c.in-Different.is).0
 
 returns_3 : tie.Need-returns-in-Spent invariant_loop decreases_loop
 returns_3 c over used asked =
@@ -187,39 +187,39 @@ returns_3 c over used asked =
 
 add_done : tie.Need-overflow_add-done invariant_loop decreases_loop
 add_done c =
-    let chosen = c.before in
+    let chosen = c.before.before.before.before in
     omega (arith, chosen.ranges.n, (pair_here chosen).left.most)
 
 past_requires : tie.Need-past-a-requires invariant_loop decreases_loop
 past_requires c κs =
-    let chosen = c.before in
+    let chosen = c.before.before.before.before.before in
     let fuelled = chosen.before in
     let asked = fuelled.requires.2 in
-    ((pair_here chosen).left.within, along_short (both fuelled asked).left fuelled.loop-done-test.true, fuelled.to_run-a.ensures.0, (pair_here chosen).left.most)
+    ((pair_here chosen).left.within, along_short (both fuelled.before.before asked).left fuelled.loop-done-test.true, fuelled.to_run-a.ensures.0, (pair_here chosen).left.most)
 
 past_requires_2 : tie.Need-past-b-requires invariant_loop decreases_loop
 past_requires_2 c κs =
-    let chosen = c.before in
+    let chosen = c.before.before.before.before.before.before.before in
     let fuelled = chosen.before in
     let asked = fuelled.requires.2 in
-    ((pair_here chosen).right.within, along_short (both fuelled asked).right fuelled.loop-done-test.true, fuelled.to_run-b.ensures.0, (pair_here chosen).right.most)
+    ((pair_here chosen).right.within, along_short (both fuelled.before.before asked).right fuelled.loop-done-test.true, fuelled.to_run-b.ensures.0, (pair_here chosen).right.most)
 
 loop_less : tie.Need-loop-done-smaller invariant_loop decreases_loop
-loop_less c = let p = pair_here c.before in omega (arith, p.left.some, p.left.most)
+loop_less c = let p = pair_here c.before.before.before.before.before.before.before.before in omega (arith, p.left.some, p.left.most)
 
 loop_again : tie.Need-loop-done-preserved invariant_loop decreases_loop
 loop_again c =
-    let past_first = c.before in
-    let alike = past_first.before in
-    let compared = alike.before in
+    let past_first = c.before.before in
+    let alike = past_first.before.before in
+    let compared = alike in
     let chosen = compared.before in
-    let fuelled = chosen.before in
+    let fuelled = chosen.before.before.before in
     (
       past_first.past-a.ensures.0,
       c.past-b.ensures.0,
       λ over used asked.
-          let p = pair chosen asked in
-          fronts_more _ _ _ p (both fuelled asked) (tells-equal (told compared asked) alike.in-Equal.is).0 fuelled.loop-done-test.true
+          let p = pair chosen.before.before.before asked in
+          fronts_more _ _ _ p (both fuelled.before.before.before asked) (tells-equal (told compared.before asked) alike.in-Equal.is).0 fuelled.loop-done-test.true
           p.left.within p.right.within past_first.past-a.ensures.1 c.past-b.ensures.1,
     )
 

@@ -7,12 +7,12 @@ use Rattle.rope.proofs.front.Tie as tie
 
 add_t4 : tie.Need-overflow_add-result
 add_t4 c =
-    let asked = c.pre in
+    let asked = c.requires in
     omega (arith, front_fits _ _ _ _ asked.low c.get_node-n.ensures asked.store asked.begins)
 
 sub_smaller : tie.Need-overflow_sub-n
 sub_smaller c =
-    let asked = c.pre in
+    let asked = c.requires in
     omega (arith, front_fits _ _ _ _ asked.low c.get_node-n.ensures asked.store asked.begins)
 
 returns : tie.Need-returns

@@ -30,9 +30,9 @@ here c = let asked = c.requires.0 in c.loop-at.invariant.1 _ asked.store asked.r
 
 get_node_requires : tie.Need-get_node-n-requires invariant_loop decreases_loop
 get_node_requires c κs =
-    let at-loop = c.before in
+    let at-loop = c.before.before.before in
     let store = at-loop.requires.0.store in
-    omega (arith, store.store.fits, (goes_here _ _ store (here at-loop.before.before) refl).0)
+    omega (arith, store.store.fits, (goes_here _ _ store (here at-loop) refl).0)
 
 -- ---- the fuel is spent ----
 
@@ -78,12 +78,12 @@ mul_set_word c =
 
 set_word_requires : tie.Need-set_word-requires invariant_loop decreases_loop
 set_word_requires c κs =
-    let has_room = c.before in
-    let concat = has_room.before in
-    let inner = concat.before in
-    let read = inner.before in
-    let at-loop = read.before in
-    let small = goes_small _ _ at-loop.requires.0.store (here at-loop.before.before.before.before.before.before.before.before.before.before.before.before) read.get_node-n.ensures concat.if-n-eq-CONS.false inner.if-n-at.false in
+    let has_room = c.before.before in
+    let concat = has_room.before.before.before.before.before.before in
+    let inner = concat.before.before in
+    let read = inner.before.before.before in
+    let at-loop = read.before.before.before.before in
+    let small = goes_small _ _ at-loop.requires.0.store (here at-loop) read.get_node-n.ensures concat.if-n-eq-CONS.false inner.if-n-at.false in
     (omega (arith, at-loop.loop-at.invariant.0, has_room.if-at-eq-MOST_FIELDS.false), omega (arith, small.1))
 
 -- both words of the field fit on the stack
@@ -105,12 +105,12 @@ sub_set_word c = omega (arith, c.if-at-here.false)
 
 set_word_requires_2 : tie.Need-set_word-requires-in-loop-at invariant_loop decreases_loop
 set_word_requires_2 c κs =
-    let pushed-one = c.before in
-    let has_room = pushed-one.before in
-    let read = has_room.before in
-    let at-loop = read.before in (
+    let pushed-one = c.before.before.before in
+    let has_room = pushed-one.before.before.before in
+    let read = has_room.before.before.before.before.before.before.before.before.before.before.before in
+    let at-loop = read.before.before.before.before in (
       rw (pushed-one.set_word.ensures, length-set) (omega (arith, at-loop.loop-at.invariant.0, has_room.if-at-eq-MOST_FIELDS.false)),
-      omega (arith, (goes_here _ _ at-loop.requires.0.store (here at-loop.before.before.before.before.before.before.before.before.before.before.before.before.before.before.before.before.before) read.get_node-n.ensures).2),
+      omega (arith, (goes_here _ _ at-loop.requires.0.store (here at-loop) read.get_node-n.ensures).2),
     )
 
 add_at : tie.Need-overflow_add-at-in-loop-at invariant_loop decreases_loop
@@ -124,11 +124,11 @@ loop_less_4 c =
 loop_again_4 : tie.Need-loop-at-preserved invariant_loop decreases_loop
 loop_again_4 c =
     let pushed-two = c.before in
-    let pushed-one = pushed-two.before in
+    let pushed-one = pushed-two.before.before.before.before in
     let inv = pushed-one.loop-at.invariant in (
       omega (arith, inv.0, pushed-one.if-at-eq-MOST_FIELDS.false),
       λ used store ready. goes_split _ _ store (inv.1 used store ready) pushed-one.get_node-n.ensures pushed-one.if-n-eq-CONS.false pushed-one.if-n-at.false pushed-one.if-at-here.false
-          (pushed _ _ _ _ _ _ (fits pushed-one.before.before.before) pushed-one.set_word.ensures pushed-two.set_word-in-loop-at.ensures),
+          (pushed _ _ _ _ _ _ (fits pushed-one) pushed-one.set_word.ensures pushed-two.set_word-in-loop-at.ensures),
     )
 
 pub to_run_spec : {M : Type 1} → statement M

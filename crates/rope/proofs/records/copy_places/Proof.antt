@@ -27,10 +27,10 @@ copy_words_requires c κs =
 
 loop_again : tie.Need-loop-i-preserved invariant_loop decreases_loop
 loop_again c =
-    let copied = c.before in
+    let copied = c.before.before in
     let read = copied.before in
     let asked = read.requires in
-    put_next read.loop-i.invariant asked.0.0 asked.1 read.loop-i-test.true _ _ read.word.ensures (there read.before) refl copied.copy_words.ensures
+    put_next read.loop-i.invariant asked.0.0 asked.1 read.loop-i-test.true _ _ read.word.ensures (there read) refl copied.copy_words.ensures
 
 same_length : tie.Need-shape_of-work invariant_loop decreases_loop
 same_length c =

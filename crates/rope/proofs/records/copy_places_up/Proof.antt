@@ -24,11 +24,11 @@ copy_up_requires c κs =
 
 loop_again : tie.Need-loop-i-preserved invariant_loop decreases_loop
 loop_again c =
-    let copied = c.before in
+    let copied = c.before.before in
     let read = copied.before in
     let asked = read.requires in
-    put_next read.loop-i.invariant asked.0.0 asked.1 read.loop-i-test.true _ _ read.word.ensures (omega (arith, below read.before))
-    (put_up read.loop-i.invariant asked.1 _ (below read.before)) copied.copy_up.ensures
+    put_next read.loop-i.invariant asked.0.0 asked.1 read.loop-i-test.true _ _ read.word.ensures (omega (arith, below read))
+    (put_up read.loop-i.invariant asked.1 _ (below read)) copied.copy_up.ensures
 
 same_length : tie.Need-shape_of-terms invariant_loop decreases_loop
 same_length c =
