@@ -1,13 +1,3 @@
 pub mod Store
 pub mod Step
 pub mod Demand3
-pub mod Rows
-pub mod Examples
-pub mod StoreLaws
-pub mod StepLaws
-pub mod SlotLaws
-pub mod ListingLaws
-pub mod Demand3Laws
-pub mod Demand3Example
-pub mod FlattenLaws
-pub mod LengthLaws

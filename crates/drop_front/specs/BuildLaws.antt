@@ -9,12 +9,12 @@ use Rattle.std.proofs.Math.Decide.{dec_lt}
 use native.Mathlib.Omega.{arith}
 use Rattle.term_spec.specs.Term.{limit}
 use Rattle.term_spec.specs.Words.{Lies, record_at, write}
-use Rattle.term_spec.specs.WordsLaws.{decode-length}
+use Rattle.term_spec.proofs.WordsLaws.{decode-length}
 use Rattle.view_spec.specs.Node.{Node, node_layout, node_at, cons_node, concat_node, GoodNodes}
-use Rattle.view_spec.specs.NodeLaws.{nodes_there, nil_first, reach_is}
-use Rattle.view_spec.specs.ChainLaws.{last_snoc}
+use Rattle.view_spec.proofs.NodeLaws.{nodes_there, nil_first, reach_is}
+use Rattle.view_spec.proofs.ChainLaws.{last_snoc}
 use Rattle.view_spec.specs.Build.{last, make_concat, Drop, stay, cut, under, drop_plan, drop_makes, drop_node, shrink}
-use Rattle.view_spec.specs.DropLaws.{Cuts, Under as UnderOk, Lasts, dropped, shrink-length, shrink_made}
+use Rattle.view_spec.proofs.DropLaws.{Cuts, Under as UnderOk, Lasts, dropped, shrink-length, shrink_made}
 use Rattle.nodes.specs.NodeStore.{nodes_in, AnyStore, Reaches}
 use Rattle.nodes.specs.Complete.{reserved, make_over, wrap as nodeWrap, completed, last_made, Completes, Became}
 use Rattle.nodes.specs.MakeLaws.{any, good-any}

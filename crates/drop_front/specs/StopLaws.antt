@@ -5,12 +5,12 @@ use Rattle.std.proofs.Common.{ap, sym, subst, ◌∙◌, inl, inr, arith}
 use Rattle.std.proofs.Math.Decide.{dec_lt}
 use Rattle.term_spec.specs.Term.{limit}
 use Rattle.term_spec.specs.Words.{record_at}
-use Rattle.term_spec.specs.WordsLaws.{decode-length}
+use Rattle.term_spec.proofs.WordsLaws.{decode-length}
 use Rattle.view_spec.specs.Node.{Node, node_layout, cons_kind, node_at}
-use Rattle.view_spec.specs.NodeLaws.{ConsAt, ConcatAt, NodeAt, node_at_lem}
+use Rattle.view_spec.proofs.NodeLaws.{ConsAt, ConcatAt, NodeAt, node_at_lem}
 use Rattle.view_spec.specs.Build.{drop_plan, drop_makes}
-use Rattle.view_spec.specs.DropLaws.{drop_zero, drop-cons, drop-concat}
-use Rattle.view_spec.specs.PlanLaws.{if_yes, if_no}
+use Rattle.view_spec.proofs.DropLaws.{drop_zero, drop-cons, drop-concat}
+use Rattle.view_spec.proofs.PlanLaws.{if_yes, if_no}
 use Rattle.nodes.specs.RuleLaws.{below_at}
 use Rattle.nodes.specs.NodeStore.{nodes_in, AnyStore}
 use Rattle.drop_front.specs.declared.Stop.{Stop}

@@ -1,7 +1,7 @@
 -- Laws of what is kept from one comparison to the next.
 use Rattle.std.specs.Prelude.{List, length, set, replicate, ℕ, ◌<◌}
 use Rattle.std.proofs.Common.{length-set, get_or-set_same, get_or-set_other, arith}
-use Rattle.term_spec.specs.ListLaws.{zeros-at}
+use Rattle.term_spec.proofs.ListLaws.{zeros-at}
 use Rattle.numbers.specs.Numbers.{Numbers}
 use Rattle.equality.specs.Memory.{numbered, Memory}
 

@@ -4,16 +4,16 @@ use Rattle.std.proofs.Math.Path.{refl}
 use Rattle.std.proofs.Common.{ap, sym, ◌∙◌, length-append, drop_at, arith}
 use Rattle.std.proofs.lemmas.List.{length-replicate}
 use Rattle.std.proofs.Math.Decide.{ℕ_discrete}
-use Rattle.term_spec.specs.BoolLaws.{both_of}
-use Rattle.term_spec.specs.ListLaws.{All}
+use Rattle.term_spec.proofs.BoolLaws.{both_of}
+use Rattle.term_spec.proofs.ListLaws.{All}
 use Rattle.term_spec.specs.Words.{Lies, record_at, records, write}
-use Rattle.term_spec.specs.WordsLaws.{decode-length}
+use Rattle.term_spec.proofs.WordsLaws.{decode-length}
 use Rattle.term_spec.specs.Term.{Run, run_layout, run_rule, runs_rule}
 use Rattle.view_spec.specs.Node.{Node, node_layout, cons_node, GoodNodes}
-use Rattle.view_spec.specs.NodeLaws.{nodes_there}
+use Rattle.view_spec.proofs.NodeLaws.{nodes_there}
 use Rattle.view_spec.specs.Build.{fuse, chain, chain_head}
-use Rattle.view_spec.specs.ChainLaws.{Fine, fuse-fine, chain_made, chain_length}
-use Rattle.view_spec.specs.PlanLaws.{if_yes, if_no}
+use Rattle.view_spec.proofs.ChainLaws.{Fine, fuse-fine, chain_made, chain_length}
+use Rattle.view_spec.proofs.PlanLaws.{if_yes, if_no}
 use Rattle.nodes.specs.NodeStore.{nodes_in}
 use Rattle.nodes.specs.MakeLaws.{any}
 use Rattle.from_runs.specs.FromRuns.{head_at, closed, closed_at, Closes, Chains, fused_in}

@@ -9,7 +9,7 @@ use native.Mathlib.Omega.{arith}
 use Rattle.term_spec.specs.Words.{record_at, records, count}
 use Rattle.term_spec.specs.Term.{Run, run_layout}
 use Rattle.view_spec.specs.Build.{if_dec, fuse_head, fuse_onto, fuse}
-use Rattle.view_spec.specs.PlanLaws.{if_yes, if_no}
+use Rattle.view_spec.proofs.PlanLaws.{if_yes, if_no}
 use Rattle.from_runs.specs.RunLaws.{runs_next, runs_done}
 
 -- ---- the runs left of those from i on ----

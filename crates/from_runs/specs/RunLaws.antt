@@ -3,11 +3,11 @@ use Rattle.std.specs.Prelude.{◌≡◌, List, [], ◌∷◌, true, false, ◌&&
 use Rattle.std.proofs.Math.Path.{refl}
 use borrow.Author.Tests.{le-leb, lt-leb, eq-eqb, ne_eqb}
 use Rattle.std.proofs.Common.{arith}
-use Rattle.term_spec.specs.BoolLaws.{both_of}
+use Rattle.term_spec.proofs.BoolLaws.{both_of}
 use Rattle.term_spec.specs.Words.{AtMost, record_at, records, count, whole}
-use Rattle.term_spec.specs.WordsLaws.{run_lays, record_next, records_done, records-length}
+use Rattle.term_spec.proofs.WordsLaws.{run_lays, record_next, records_done, records-length}
 use Rattle.term_spec.specs.Term.{Run, run_layout, run_rule, runs_rule, limit, run_list_limit}
-use Rattle.term_spec.specs.TermLaws.{run_facts}
+use Rattle.term_spec.proofs.TermLaws.{run_facts}
 use Rattle.view_spec.specs.Build.{total}
 
 module _ (w : List ℕ) where

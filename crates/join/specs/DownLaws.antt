@@ -5,12 +5,12 @@ use Rattle.std.proofs.Common.{sym, ◌∙◌, arith}
 use Rattle.std.proofs.lemmas.List.{length-replicate}
 use Rattle.term_spec.specs.Term.{limit}
 use Rattle.term_spec.specs.Words.{Lies, record_at, write}
-use Rattle.term_spec.specs.WordsLaws.{decode-length}
+use Rattle.term_spec.proofs.WordsLaws.{decode-length}
 use Rattle.view_spec.specs.Node.{Node, node_layout, node_at, concat_node, GoodNodes, Piece}
-use Rattle.view_spec.specs.NodeLaws.{nodes_there, trans_grown}
-use Rattle.view_spec.specs.ChainLaws.{last_snoc}
+use Rattle.view_spec.proofs.NodeLaws.{nodes_there, trans_grown}
+use Rattle.view_spec.proofs.ChainLaws.{last_snoc}
 use Rattle.view_spec.specs.Build.{Plan, base, single, double, last, make_concat, plan, plan_makes, grow}
-use Rattle.view_spec.specs.JoinLaws.{planned, grow-length, grow_made}
+use Rattle.view_spec.proofs.JoinLaws.{planned, grow-length, grow_made}
 use Rattle.nodes.specs.NodeStore.{nodes_in, NodeStore, AnyStore}
 use Rattle.nodes.specs.Complete.{reserved, child_of, make_over, wrap, completed, Completes, Became}
 use Rattle.nodes.specs.RuleLaws.{below_at}

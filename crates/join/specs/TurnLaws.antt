@@ -5,11 +5,11 @@ use Rattle.std.proofs.Common.{sym, ◌∙◌, inl, inr, arith}
 use Prim.{tt}
 use Rattle.std.proofs.Math.Decide.{dec_le, dec_lt}
 use Rattle.term_spec.specs.Words.{record_at}
-use Rattle.term_spec.specs.WordsLaws.{decode-length}
+use Rattle.term_spec.proofs.WordsLaws.{decode-length}
 use Rattle.view_spec.specs.Node.{Node, node_layout, concat_kind, node_at, GoodNodes, Piece}
-use Rattle.view_spec.specs.NodeLaws.{ConcatAt, NodeAt, node_at_lem}
+use Rattle.view_spec.proofs.NodeLaws.{ConcatAt, NodeAt, node_at_lem}
 use Rattle.view_spec.specs.Build.{if_dec, base, single, double, unclamp, plan, plan_makes}
-use Rattle.view_spec.specs.PlanLaws.{left, left_len, right, inner_right, if_yes, if_no, unclamp_induct, unclamped, unclamp_over, inner_low, plan_leaf, plan-concat, second_turn}
+use Rattle.view_spec.proofs.PlanLaws.{left, left_len, right, inner_right, if_yes, if_no, unclamp_induct, unclamped, unclamp_over, inner_low, plan_leaf, plan-concat, second_turn}
 use Rattle.nodes.specs.NodeStore.{nodes_in, AnyStore}
 use Rattle.nodes.specs.RuleLaws.{below_at}
 use Rattle.nodes.specs.MakeLaws.{any, good-any, concat-at, leaf_at}

@@ -9,26 +9,26 @@ use borrow.Author.Tests.{leb-true, le-leb, lt-leb}
 use Rattle.std.proofs.Math.ListN.{length}
 use Rattle.std.proofs.lemmas.List.{length-map}
 use Prim.Native.Nat.{ℕ, ◌+◌, ◌*◌, ◌/◌, ◌<◌, ◌≤◌, min}
-use Rattle.term_spec.specs.BoolLaws.{both_of}
-use Rattle.term_spec.specs.ListLaws.{All}
+use Rattle.term_spec.proofs.BoolLaws.{both_of}
+use Rattle.term_spec.proofs.ListLaws.{All}
 use Rattle.term_spec.specs.Words.{Lies, decode, count, records, write}
-use Rattle.term_spec.specs.WordsLaws.{term_lays, decode-length, decode-write, write-length}
+use Rattle.term_spec.proofs.WordsLaws.{term_lays, decode-length, decode-write, write-length}
 use Rattle.term_spec.specs.Term.{Term, Run, limit, term_layout, run_rule, runs_rule}
 use Rattle.term_spec.specs.Refusal.{too_many_names, terms_full}
-use Rattle.term_spec.specs.TermLaws.{run_facts}
+use Rattle.term_spec.proofs.TermLaws.{run_facts}
 use Rattle.view_spec.specs.Node.{node_at}
 use Rattle.view_spec.specs.Read.{copy, settled_run}
-use Rattle.view_spec.specs.SettleLaws.{Settles, settles}
+use Rattle.view_spec.proofs.SettleLaws.{Settles, settles}
 use Rattle.match_spec.specs.Pattern.{item_layout, binding_layout, bound_run, binding_name, pattern_rule, pattern_limit, name_limit}
-use Rattle.match_spec.specs.NameLaws.{names_grow}
+use Rattle.match_spec.proofs.NameLaws.{names_grow}
 use Rattle.match_spec.specs.Walk.{runs}
 use Rattle.match_spec.specs.Answer.{Wanted, Progress, spec_slots_in, absorb, number_of}
-use Rattle.match_spec.specs.RunLaws.{Inside}
+use Rattle.match_spec.proofs.RunLaws.{Inside}
 use Rattle.calls_spec.specs.Store.{Store, terms, nodes, capacity, add_terms}
 use Rattle.calls_spec.specs.Step.{Request, Answer, refused, in_store, answer_number, call_match, ask, even_request, ask_request, given, fits, changed, deed, input}
 use Rattle.calls_spec.specs.Step.{room, accept, refuse, step, items, bindings, pattern_of, start_names, all_names, numbered_pattern, start_runs, field_copy}
 use Rattle.calls_spec.specs.Step.{match_events, match_progress, match_answer, fill_slots}
-use Rattle.view_spec.specs.NodeLaws.{facts_field}
+use Rattle.view_spec.proofs.NodeLaws.{facts_field}
 use Rattle.calls_spec.specs.Demand3.{read_slots}
 use Rattle.view.specs.Check.{store_of, numbered}
 use Rattle.view.specs.StepLaws.{step-refused, step-full, step_done}

@@ -7,7 +7,7 @@ use Rattle.term_spec.specs.Refusal.{uneven, bad_term, bad_node, bad_field, past_
 use Rattle.view_spec.specs.Node.{Field, field_rule}
 use Rattle.match_spec.specs.Pattern.{item_layout, binding_layout, bound_run, pattern_rule, bindings_rule, pattern_limit, name_limit}
 use Rattle.match_spec.specs.Walk.{Event, walk}
-use Rattle.match_spec.specs.RunLaws.{Inside}
+use Rattle.match_spec.proofs.RunLaws.{Inside}
 use Rattle.calls_spec.specs.Store.{Store, nodes, counts_rule, store_terms, store_nodes}
 use Rattle.calls_spec.specs.Step.{Request, Answer, refused, listed, After, ask, bindings, start_runs}
 use Rattle.steps.specs.State.{Place, levels_of, entries_of, LevelRoom, EntryRoom}

@@ -1,12 +1,12 @@
 -- The pattern that the code reads by words and numbers is the specification's numbered pattern, and it fits its brackets and names.
 use Rattle.std.specs.Prelude.{◌≡◌, refl, List, [], ◌∷◌, map, Bool, ◌&&◌, T, ltb, eqb, length, get_or, take, drop, ℕ, suc, zero}
 use Rattle.std.proofs.Common.{ap, ◌∙◌, ltb-true}
-use Rattle.term_spec.specs.BoolLaws.{both_of, T_true}
+use Rattle.term_spec.proofs.BoolLaws.{both_of, T_true}
 use Rattle.term_spec.specs.Value.{canon}
 use Rattle.match_spec.specs.Element.{Element, lit, opening, closing, call, one, many, canon_e}
 use Rattle.match_spec.specs.Pattern.{Item, no_item, Name, find, add, names_after, number, element_k, element, elements, item_rule_k, close_rule, nest_rule_k}
 use Rattle.match_spec.specs.Pattern.{none_open, items_rule, pattern_rule}
-use Rattle.match_spec.specs.NameLaws.{find_le, add-length}
+use Rattle.match_spec.proofs.NameLaws.{find_le, add-length}
 use Rattle.pattern.specs.Records.{numbers_of}
 use Rattle.steps.specs.State.{renamed, coded, coded_all}
 use Rattle.steps.specs.Stays.{Sound}

@@ -7,7 +7,7 @@ use borrow.Author.Tests.{leb-true, le-leb, lt-leb, eq-eqb, ne_eqb}
 use Rattle.std.proofs.Math.Dec.{leb}
 use Rattle.std.proofs.Math.ListN.{length}
 use native.Mathlib.Omega.{arith}
-use Rattle.term_spec.specs.BoolLaws.{true-T}
+use Rattle.term_spec.proofs.BoolLaws.{true-T}
 use Rattle.term_spec.specs.Words.{whole, count, records}
 use Rattle.term_spec.specs.Term.{limit, runs_rule}
 use Rattle.view_spec.specs.Node.{Field, empty_field, node_at, field_rule}

@@ -2,11 +2,11 @@
 use Rattle.std.specs.Prelude.{◌≡◌, refl, List, [], ◌∷◌, ◌++◌, length, take, drop, ℕ, suc, zero, ◌+◌, ◌*◌, ◌≤◌}
 use Rattle.std.proofs.Common.{ap, ap₂, sym, ◌∙◌, length-append, length-drop, take-append-drop, take-add, suc-mul, mul_assoc, arith}
 use Rattle.term_spec.specs.Words.{decode, encode, write}
-use Rattle.term_spec.specs.WordsLaws.{Keeps, run_lays, decode-length, encode-append, encode-decode}
+use Rattle.term_spec.proofs.WordsLaws.{Keeps, run_lays, decode-length, encode-append, encode-decode}
 use Rattle.term_spec.specs.Term.{run_of, run_layout}
 use Rattle.match_spec.specs.Answer.{spec_slots_in}
 use Rattle.calls_spec.specs.Step.{concat, fill_slots}
-use Rattle.calls_spec.specs.LengthLaws.{slots_fit}
+use Rattle.calls_spec.proofs.LengthLaws.{slots_fit}
 use Rattle.calls_spec.specs.Demand3.{read_slots}
 use Rattle.matcher.specs.Ready.{candidates_in}
 

@@ -4,7 +4,7 @@ use Rattle.std.proofs.Common.{ap, ap₂, sym, ◌∙◌, length-set, add-one, ar
 use Rattle.std.proofs.lemmas.List.{map-append}
 use Rattle.std.proofs.Math.ListN.{length}
 use Rattle.term_spec.specs.Words.{decode, record_at, count, records}
-use Rattle.term_spec.specs.WordsLaws.{decode-snoc}
+use Rattle.term_spec.proofs.WordsLaws.{decode-snoc}
 use Rattle.term_spec.specs.Term.{Run, run_layout}
 use Rattle.match_spec.specs.Pattern.{binding_layout, bound_run, name_limit}
 use Rattle.match_spec.specs.Walk.{walk}

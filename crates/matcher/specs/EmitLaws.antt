@@ -6,11 +6,11 @@ use Rattle.std.proofs.Math.Seq.{paste, paste-zero, paste-suc}
 use Rattle.std.proofs.lemmas.List.Edits.{length-paste, drop-paste}
 use Rattle.std.proofs.Math.Decide.{dec_lt}
 use Rattle.term_spec.specs.Words.{Layout, decode, encode}
-use Rattle.term_spec.specs.WordsLaws.{decode-take, decode-after}
+use Rattle.term_spec.proofs.WordsLaws.{decode-take, decode-after}
 use Rattle.term_spec.specs.Term.{Run, run_layout}
 use Rattle.match_spec.specs.Walk.{hit}
 use Rattle.match_spec.specs.Answer.{Wanted, after_one, absorb, absorb_one, write_hit}
-use Rattle.match_spec.specs.AnswerLaws.{write-room, write-full}
+use Rattle.match_spec.proofs.AnswerLaws.{write-room, write-full}
 use Rattle.calls_spec.specs.Demand3.{read_slots}
 use Rattle.matcher.specs.declared.Goal.{Goal}
 use Rattle.matcher.specs.declared.Tally.{Tally}

@@ -8,15 +8,15 @@ use Rattle.std.specs.Prelude.{Bool, true, get_or, ℕ, ◌+◌, ◌-◌, ◌<◌
 use Rattle.std.proofs.Math.ListN.{length, length-append}
 use Rattle.std.proofs.lemmas.List.{length-map}
 use Rattle.std.proofs.Math.Decide.{dec_lt}
-use Rattle.term_spec.specs.ListLaws.{part_length}
+use Rattle.term_spec.proofs.ListLaws.{part_length}
 use Rattle.term_spec.specs.Term.{Term, Run, no_run, part}
 use Rattle.term_spec.specs.Value.{values, canon}
-use Rattle.term_spec.specs.TermLaws.{values_length}
+use Rattle.term_spec.proofs.TermLaws.{values_length}
 use Rattle.match_spec.specs.Element.{Element, lit, opening, closing, call, one, many, Level}
 use Rattle.match_spec.specs.Listing.{enter}
 use Rattle.match_spec.specs.Walk.{Event, hit, Reading, runs, cells_of, strip, ends, if_empty, finish_walk, leave_level, top_level, spread, walk}
-use Rattle.match_spec.specs.WalkLaws.{strip-sound}
-use Rattle.match_spec.specs.RunLaws.{Inside}
+use Rattle.match_spec.proofs.WalkLaws.{strip-sound}
+use Rattle.match_spec.proofs.RunLaws.{Inside}
 use Rattle.steps.specs.Stays.{Sound, Stays}
 
 -- ---- what the cells of a run inside the terms are ----

@@ -5,7 +5,7 @@ use Rattle.std.proofs.Common.{ap₂, subst, ◌∙◌, append-nil, drop-drop, mu
 use Rattle.term_spec.specs.Term.{Run}
 use Rattle.match_spec.specs.Walk.{Event, tried, reached, upto}
 use Rattle.match_spec.specs.Answer.{going, called, Progress, Wanted, absorb_one, absorb}
-use Rattle.match_spec.specs.AnswerLaws.{absorb-append, absorb_done, absorb-full, absorb_called}
+use Rattle.match_spec.proofs.AnswerLaws.{absorb-append, absorb_done, absorb-full, absorb_called}
 use Rattle.matcher.specs.declared.Goal.{Goal}
 use Rattle.matcher.specs.declared.Tally.{Tally}
 use Rattle.matcher.specs.Ready.{candidates_in, status_of, progress_of, wanted_of, slot_words, Filled, Written}

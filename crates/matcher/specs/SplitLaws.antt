@@ -2,12 +2,12 @@
 use Rattle.std.specs.Prelude.{◌≡◌, List, [], ◌∷◌, ◌++◌, Bool, true, false, length, ℕ, suc, ◌+◌, ◌<◌, ◌≤◌}
 use Rattle.std.proofs.Math.Path.{refl, ap, subst}
 use Rattle.std.proofs.Common.{ap₂, sym, ◌∙◌, length-append, arith}
-use Rattle.term_spec.specs.ListLaws.{All, all_snoc}
-use Rattle.term_spec.specs.WordsLaws.{decode-length}
+use Rattle.term_spec.proofs.ListLaws.{All, all_snoc}
+use Rattle.term_spec.proofs.WordsLaws.{decode-length}
 use Rattle.term_spec.specs.Term.{Run, run_layout}
 use Rattle.match_spec.specs.Pattern.{name_limit, nesting_limit}
 use Rattle.match_spec.specs.Walk.{Event, tried, upto, when, walk}
-use Rattle.match_spec.specs.RunLaws.{Inside}
+use Rattle.match_spec.proofs.RunLaws.{Inside}
 use Rattle.steps.specs.Turn.{next, one_split, onward}
 use Rattle.steps.specs.Stays.{Sound, Stays, KeepsPlace, Kept}
 use Rattle.steps.specs.TurnLaws.{sound_most}

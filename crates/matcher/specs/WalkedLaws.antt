@@ -3,11 +3,11 @@ use Rattle.std.proofs.Math.Path.{◌≡◌, ap, ap₂, subst}
 use Rattle.std.specs.Prelude.{refl, List, [], ◌∷◌, Bool, T, get_or, ℕ, suc, zero, ◌+◌, ◌*◌, ◌/◌, ◌<◌, ◌≤◌, max}
 use Rattle.std.proofs.Common.{sym, ◌∙◌, arith}
 use Rattle.std.proofs.Math.ListN.{length, set}
-use Rattle.term_spec.specs.ListLaws.{All}
+use Rattle.term_spec.proofs.ListLaws.{All}
 use Rattle.term_spec.specs.Words.{decode, record_at, count}
-use Rattle.term_spec.specs.WordsLaws.{decode-length}
+use Rattle.term_spec.proofs.WordsLaws.{decode-length}
 use Rattle.term_spec.specs.Term.{Term, term_layout, run_layout}
-use Rattle.term_spec.specs.TermLaws.{Valid, valid-terms}
+use Rattle.term_spec.proofs.TermLaws.{Valid, valid-terms}
 use Rattle.match_spec.specs.Element.{Element, canon_e}
 use Rattle.match_spec.specs.Pattern.{Item, item_layout, element_k, element, item_rule_k, name_limit}
 use Rattle.match_spec.specs.Walk.{hit, reached, ends, walk}

@@ -6,14 +6,14 @@ use Rattle.std.proofs.Common.{◌∙◌, append-nil, le→leb, length-append}
 use Prim.Native.Nat.{ℕ, suc, zero, ◌+◌, ◌*◌, ◌-◌, ◌≤◌, ◌<◌}
 use Rattle.std.proofs.Math.Decide.{dec_lt}
 use native.Mathlib.Omega.{arith}
-use Rattle.term_spec.specs.BoolLaws.{both_of, and_of}
+use Rattle.term_spec.proofs.BoolLaws.{both_of, and_of}
 use Rattle.term_spec.specs.Term.{limit}
 use Rattle.term_spec.specs.Words.{Lies, record_at, write}
-use Rattle.term_spec.specs.WordsLaws.{decode-length}
+use Rattle.term_spec.proofs.WordsLaws.{decode-length}
 use Rattle.view_spec.specs.Node.{Node, node_layout, node_at, concat_node, node_rule, each_node, nodes_rule, GoodNodes}
-use Rattle.view_spec.specs.NodeLaws.{nil_first, node-new, trans_grown, reach_limit}
-use Rattle.view_spec.specs.ChainLaws.{last_snoc}
-use Rattle.view_spec.specs.PlanLaws.{if_yes, if_no}
+use Rattle.view_spec.proofs.NodeLaws.{nil_first, node-new, trans_grown, reach_limit}
+use Rattle.view_spec.proofs.ChainLaws.{last_snoc}
+use Rattle.view_spec.proofs.PlanLaws.{if_yes, if_no}
 use Rattle.view_spec.specs.Build.{last, make_concat, if_dec}
 use Rattle.nodes.specs.NodeStore.{nodes_in, NodeStore, AnyStore}
 use Rattle.nodes.specs.Complete.{child_of, make_over, wrap, completed, last_made, Completes, Became}

@@ -5,11 +5,11 @@ use Rattle.std.proofs.lemmas.List.{length-replicate}
 use Rattle.std.proofs.Math.Decide.{dec_le}
 use Rattle.term_spec.specs.Words.{record_at, write}
 use Rattle.term_spec.specs.Term.{limit}
-use Rattle.term_spec.specs.WordsLaws.{decode-length}
+use Rattle.term_spec.proofs.WordsLaws.{decode-length}
 use Rattle.view_spec.specs.Node.{Node, node_layout, cons_kind, concat_kind, node_at, cons_node, concat_node, GoodNodes}
-use Rattle.view_spec.specs.NodeLaws.{NodeAt, ConcatAt, node_at_lem}
+use Rattle.view_spec.proofs.NodeLaws.{NodeAt, ConcatAt, node_at_lem}
 use Rattle.view_spec.specs.Build.{unclamp}
-use Rattle.view_spec.specs.PlanLaws.{left_len, if_yes, if_no, unclamp_leaf, unclamp-concat}
+use Rattle.view_spec.proofs.PlanLaws.{left_len, if_yes, if_no, unclamp_leaf, unclamp-concat}
 use Rattle.nodes.specs.NodeStore.{nodes_in, NodeStore}
 use Rattle.nodes.specs.RuleLaws.{below_at}
 

@@ -9,9 +9,9 @@ use Prim.Native.Nat.{ℕ, suc, zero, ◌+◌, ◌<◌, ◌≤◌, min, max}
 use native.Mathlib.Omega.{arith}
 use Rattle.term_spec.specs.Term.{limit}
 use Rattle.term_spec.specs.Words.{decode, record_at}
-use Rattle.term_spec.specs.WordsLaws.{decode-at, decode-length, decode-snoc}
+use Rattle.term_spec.proofs.WordsLaws.{decode-at, decode-length, decode-snoc}
 use Rattle.view_spec.specs.Node.{Node, nil_node, node_layout, node_at, nil_rule, cons_rule, concat_rule, node_rule_k, node_rule, each_node, nodes_rule, field_rule}
-use Rattle.view_spec.specs.NodeLaws.{NilFacts, ConsFacts, ConcatFacts, NodeFacts, node_facts}
+use Rattle.view_spec.proofs.NodeLaws.{NilFacts, ConsFacts, ConcatFacts, NodeFacts, node_facts}
 use Rattle.nodes.specs.NodeStore.{nodes_in}
 
 -- A test that cannot hold.

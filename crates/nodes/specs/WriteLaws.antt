@@ -7,9 +7,9 @@ use Rattle.std.proofs.Math.Seq.{drop-drop, drop-append-add, length-take-le}
 use Rattle.std.proofs.lemmas.List.{get_or_at}
 use native.Mathlib.Omega.{arith}
 use Rattle.term_spec.specs.Words.{Lies, decode, record_at, encode, write}
-use Rattle.term_spec.specs.WordsLaws.{decode-at, decode-length, decode-append, decode-write, encode-length, encode-append, encode-decode, write-length, Keeps}
+use Rattle.term_spec.proofs.WordsLaws.{decode-at, decode-length, decode-append, decode-write, encode-length, encode-append, encode-decode, write-length, Keeps}
 use Rattle.view_spec.specs.Node.{Node, nil_node, node_of, node_layout}
-use Rattle.view_spec.specs.NodeLaws.{node_lays}
+use Rattle.view_spec.proofs.NodeLaws.{node_lays}
 use Rattle.nodes.specs.NodeStore.{nodes_in}
 
 module _ (w : List ℕ) (i : ℕ) (n : Node) (h : Lies node_layout w (i + 1)) where

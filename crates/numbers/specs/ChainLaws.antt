@@ -2,7 +2,7 @@
 use Rattle.std.specs.Prelude.{◌≡◌, List, ◌⊎◌, length, get_or, set, replicate, ℕ, suc, ◌+◌, ◌-◌, ◌<◌, ◌≤◌}
 use Rattle.std.proofs.Common.{sym, ap, ◌∙◌, inl, inr, get_or-set_same, get_or-set_other, arith}
 use Rattle.std.proofs.Math.Decide.{ℕ_discrete, dec_lt}
-use Rattle.term_spec.specs.ListLaws.{zeros-at}
+use Rattle.term_spec.proofs.ListLaws.{zeros-at}
 use Rattle.numbers.specs.Buckets.{Chains, Sought}
 
 -- At first no place is entered.

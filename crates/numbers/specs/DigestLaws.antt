@@ -10,8 +10,8 @@ use Rattle.std.proofs.lemmas.List.{take-set-le}
 use Prim.Native.Nat.{ℕ, suc, ◌+◌, ◌*◌, ◌-◌, ◌/◌, ◌%◌, ◌^◌, ◌<◌, ◌≤◌}
 use Rattle.std.proofs.Math.Nat.{add_assoc, mul_assoc, pow-zero, pow-succ', div-add-mod, mul-add-mod_self_left, mod-add-mod, add-mod-mod}
 use native.Mathlib.Omega.{arith}
-use Rattle.term_spec.specs.BoolLaws.{true-T}
-use Rattle.term_spec.specs.ListLaws.{zeros-at, part_length}
+use Rattle.term_spec.proofs.BoolLaws.{true-T}
+use Rattle.term_spec.proofs.ListLaws.{zeros-at, part_length}
 use Rattle.term_spec.specs.Text.{lower, zero_digit, is_zero, stripped, text_at}
 use Rattle.numbers.specs.Digest.{prime, stride, more, digest_from, digest, digit, Marked}
 

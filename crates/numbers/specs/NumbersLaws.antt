@@ -3,8 +3,8 @@ use Rattle.std.specs.Prelude.{◌≡◌, refl, List, Bool, true, false, eqb, get
 use Rattle.std.proofs.Common.{ap, ◌∙◌, eq-eqb, ne_eqb, get_or-take, get_or-drop, ext_get_or, arith}
 use Rattle.std.proofs.Math.Path.{sym}
 use Rattle.std.proofs.Math.Decide.{ℕ_discrete, dec_lt}
-use Rattle.term_spec.specs.ListLaws.{part_length}
-use Rattle.term_spec.specs.ValueLaws.{is_yes_lem, is_no, yes_of, alike}
+use Rattle.term_spec.proofs.ListLaws.{part_length}
+use Rattle.term_spec.proofs.ValueLaws.{is_yes_lem, is_no, yes_of, alike}
 use Rattle.value.specs.Equal.{equal_at, spec_equal_runs}
 use Rattle.value.specs.EqualLaws.{runs_from, runs-all, runs-more, runs_none}
 use Rattle.numbers.specs.Numbers.{form_at, Numbers, Same, Agree}

@@ -5,15 +5,15 @@ use Rattle.std.proofs.Common.{ap₂, ◌∙◌, eqb→eq, arith}
 use Rattle.std.proofs.Math.ListN.{take}
 use Rattle.std.proofs.lemmas.List.{take-set-le}
 use Rattle.std.proofs.Math.Decide.{ℕ_discrete}
-use Rattle.term_spec.specs.BoolLaws.{both_of, true-T, T_true}
-use Rattle.term_spec.specs.ListLaws.{part-below}
+use Rattle.term_spec.proofs.BoolLaws.{both_of, true-T, T_true}
+use Rattle.term_spec.proofs.ListLaws.{part-below}
 use Rattle.term_spec.specs.Words.{decode, record_at}
-use Rattle.term_spec.specs.WordsLaws.{decode-length, decode-at, decode-below}
+use Rattle.term_spec.proofs.WordsLaws.{decode-length, decode-at, decode-below}
 use Rattle.term_spec.specs.Text.{lower, text_at, stripped}
 use Rattle.term_spec.specs.Term.{Term, term_layout, no_term, char_kind, bracket_kind, is_scalar, symbol_rule, term_rule_k, upper_rule, term_rule}
-use Rattle.term_spec.specs.TermLaws.{term-at}
+use Rattle.term_spec.proofs.TermLaws.{term-at}
 use Rattle.term_spec.specs.Value.{value_k, value_of, canon}
-use Rattle.term_spec.specs.ValueLaws.{yes_of}
+use Rattle.term_spec.proofs.ValueLaws.{yes_of}
 use Rattle.value.specs.CheckLaws.{upper_other}
 use Rattle.value.specs.Equal.{TermStore, spec_equal_symbols, equal_at, spec_equal_runs}
 use Rattle.value.specs.EqualLaws.{contents-below, at_differ, at_symbols, at_brackets, runs_lengths}

@@ -6,9 +6,9 @@ use Rattle.std.proofs.Math.Option.{Option, some, none}
 use Rattle.std.proofs.Math.Bool.{true, false}
 use Rattle.std.proofs.Math.Dec.{leb}
 use Prim.Native.Nat.{ℕ}
-use Rattle.term_spec.specs.BoolLaws.{both_of, true-T}
+use Rattle.term_spec.proofs.BoolLaws.{both_of, true-T}
 use Rattle.sheet_spec.specs.Sheet.{Sheet, Counts, spec_names_start, counts_at, head_rule, body_rule, spec_read_sheet}
-use Rattle.sheet_spec.specs.SheetLaws.{read_none}
+use Rattle.sheet_spec.proofs.SheetLaws.{read_none}
 use Rattle.sheet_spec.specs.Job.{SheetAnswer, refused_sheet, wrote, counted, AfterSheet, unread, read_into}
 use Rattle.sheet_form.specs.Form.{in_limits}
 use Rattle.sheet_read.specs.Read.{leaves_sheet, read_by}

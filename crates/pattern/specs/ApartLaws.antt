@@ -7,11 +7,11 @@ use Rattle.std.proofs.lemmas.List.{length-replicate}
 use Prim.Native.Nat.{ℕ, suc, zero, ◌+◌, ◌*◌, ◌-◌, ◌<◌, ◌≤◌}
 use Rattle.std.proofs.Math.Decide.{dec_lt}
 use Rattle.std.proofs.Math.Numerals.{add-one}
-use Rattle.term_spec.specs.BoolLaws.{T_true, Test, holds, fails, test}
+use Rattle.term_spec.proofs.BoolLaws.{T_true, Test, holds, fails, test}
 use Rattle.term_spec.specs.Words.{decode, record_at, records}
-use Rattle.term_spec.specs.WordsLaws.{record_drop}
+use Rattle.term_spec.proofs.WordsLaws.{record_drop}
 use Rattle.term_spec.specs.Term.{limit}
-use Rattle.term_spec.specs.ValueLaws.{is_yes_lem, yes_of}
+use Rattle.term_spec.proofs.ValueLaws.{is_yes_lem, yes_of}
 use Rattle.numbers.specs.Buckets.{buckets, Sought}
 use Rattle.numbers.specs.ChainLaws.{below_next, chains_none, chains_passed, chains_entered, sought_head}
 use Rattle.numbers.specs.NumbersLaws.{never}

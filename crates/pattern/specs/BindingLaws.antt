@@ -6,9 +6,9 @@ use Rattle.std.proofs.lemmas.List.{map-append}
 use borrow.Author.Tests.{le-leb, lt-leb}
 use Rattle.std.proofs.Math.ListN.{length}
 use Rattle.std.proofs.Math.Decide.{ℕ_discrete}
-use Rattle.term_spec.specs.BoolLaws.{both_of, true-T}
+use Rattle.term_spec.proofs.BoolLaws.{both_of, true-T}
 use Rattle.term_spec.specs.Words.{decode, record_at, records, count}
-use Rattle.term_spec.specs.WordsLaws.{decode-at, decode-snoc, decode-length, record_next, records_done}
+use Rattle.term_spec.proofs.WordsLaws.{decode-at, decode-snoc, decode-length, record_next, records_done}
 use Rattle.term_spec.specs.Text.{text_rule}
 use Rattle.term_spec.specs.Term.{run_rule, runs_rule}
 use Rattle.text.specs.Texts.{name_text, spelling}

@@ -7,15 +7,15 @@ use Rattle.std.proofs.Math.ListN.{length, drop, get_or-map}
 use Rattle.std.proofs.lemmas.List.{length-map}
 use Rattle.std.proofs.Math.Seq.{drop-length}
 use native.Mathlib.Omega.{arith}
-use Rattle.term_spec.specs.ListLaws.{entry_next, map_next}
+use Rattle.term_spec.proofs.ListLaws.{entry_next, map_next}
 use Rattle.term_spec.specs.Words.{Lies, decode, record_at, count, records}
-use Rattle.term_spec.specs.WordsLaws.{decode-length, decode-at, record_next}
+use Rattle.term_spec.proofs.WordsLaws.{decode-length, decode-at, record_next}
 use Rattle.term_spec.specs.Text.{text_at}
 use Rattle.term_spec.specs.Value.{is_yes, canon}
-use Rattle.term_spec.specs.ValueLaws.{is_no, alike}
+use Rattle.term_spec.proofs.ValueLaws.{is_no, alike}
 use Rattle.text.specs.Texts.{identifiers_equal}
 use Rattle.match_spec.specs.Pattern.{Item, item_layout, Binding, binding_layout, Name, name_at, name?, find_here, find, binding_name, binding_names}
-use Rattle.match_spec.specs.NameLaws.{find_le, find-kept}
+use Rattle.match_spec.proofs.NameLaws.{find_le, find-kept}
 use Rattle.pattern.specs.Apart.{name_in}
 use Rattle.pattern.specs.Records.{bindings_in, same_name, item_name, first_names, table_at, BindingTexts, ItemTexts}
 

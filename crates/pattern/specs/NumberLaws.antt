@@ -6,10 +6,10 @@ use Rattle.std.proofs.lemmas.List.{map-append}
 use Rattle.std.proofs.Math.ListN.{length}
 use Rattle.std.proofs.Math.Seq.{append_snoc}
 use Rattle.std.proofs.Math.Decide.{ℕ_discrete, dec_lt}
-use Rattle.term_spec.specs.BoolLaws.{both_of, true-T}
-use Rattle.term_spec.specs.ListLaws.{map-drop, map_next}
+use Rattle.term_spec.proofs.BoolLaws.{both_of, true-T}
+use Rattle.term_spec.proofs.ListLaws.{map-drop, map_next}
 use Rattle.term_spec.specs.Words.{Lies, AtMost, decode, record_at, records, count}
-use Rattle.term_spec.specs.WordsLaws.{decode-at, decode-length, record_next, records_done}
+use Rattle.term_spec.proofs.WordsLaws.{decode-at, decode-length, record_next, records_done}
 use Rattle.term_spec.specs.Text.{text_rule}
 use Rattle.text.specs.Texts.{name_text, spelling}
 use Rattle.text.specs.TextLaws.{text_within}
@@ -17,7 +17,7 @@ use Rattle.match_spec.specs.Element.{Element}
 use Rattle.match_spec.specs.Pattern.{Item, no_item, item_layout, symbol_variable_kind, expression_variable_kind, nesting_limit, name_limit}
 use Rattle.match_spec.specs.Pattern.{element_k, element, elements, item_rule_k, close_rule, nest_rule_k, items_rule, pattern_rule}
 use Rattle.match_spec.specs.Pattern.{binding_layout, Name, name_at, find, add_if, add, names_after, binding_names}
-use Rattle.match_spec.specs.NameLaws.{find_le, add-length, names_grow}
+use Rattle.match_spec.proofs.NameLaws.{find_le, add-length, names_grow}
 use Rattle.pattern.specs.Records.{items_in, bindings_in, numbers_of, variable, item_name, first_names, table_at, ItemTexts}
 use Rattle.pattern.specs.PatternLaws.{Variable, s_kind, t_kind, e_kind, variable_kind, item_variable}
 use Rattle.pattern.specs.NameLaws.{bindings-length, firsts_length}

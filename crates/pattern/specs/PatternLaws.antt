@@ -8,7 +8,7 @@ use Prim.Native.Nat.{ℕ, suc, zero, ◌+◌, ◌-◌, ◌<◌, ◌≤◌}
 use Rattle.std.proofs.Math.Decide.{ℕ_discrete}
 use native.Mathlib.Omega.{arith}
 use Rattle.term_spec.specs.Words.{record_at, records, count}
-use Rattle.term_spec.specs.WordsLaws.{decode-at, record_next, records_done}
+use Rattle.term_spec.proofs.WordsLaws.{decode-at, record_next, records_done}
 use Rattle.term_spec.specs.Text.{text_rule}
 use Rattle.term_spec.specs.Term.{Term, symbol_rule}
 use Rattle.text.specs.Texts.{name_text, spelling}

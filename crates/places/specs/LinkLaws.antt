@@ -1,10 +1,10 @@
 -- Laws of a node as a first part and what comes after it: a Cons's run and its tail, a Concat's left and its right.
 use Rattle.std.specs.Prelude.{◌≡◌, List, ◌++◌, T, length, take, drop, ℕ, ◌-◌, ◌≤◌, ◌<◌}
 use Rattle.std.proofs.Common.{ap, sym, ◌∙◌, length-drop, arith}
-use Rattle.term_spec.specs.ListLaws.{take_left, drop-left, drop-right}
+use Rattle.term_spec.proofs.ListLaws.{take_left, drop-left, drop-right}
 use Rattle.view_spec.specs.Node.{Node, node_at, meaning, nodes_rule}
-use Rattle.view_spec.specs.NodeLaws.{ConsAt, ConcatAt, meaning-cons, meaning-concat}
-use Rattle.view_spec.specs.PlanLaws.{left-fits}
+use Rattle.view_spec.proofs.NodeLaws.{ConsAt, ConcatAt, meaning-cons, meaning-concat}
+use Rattle.view_spec.proofs.PlanLaws.{left-fits}
 
 -- The terms of node i from its term k on.
 abbrev pub onward : {X : Type 0} → List X → List Node → ℕ → ℕ → List X

@@ -6,9 +6,10 @@ use Rattle.std.proofs.Math.ListN.{length, drop}
 use Rattle.std.proofs.lemmas.List.Edits.{sets}
 use Rattle.std.proofs.Math.Seq.{append_snoc}
 use Prim.Native.Nat.{ℕ, suc, zero, ◌+◌, ◌-◌, ◌≤◌, ◌<◌}
-use Rattle.term_spec.specs.ListLaws.{numbers_from, All, all_take, map-take, map-drop}
+use Rattle.term_spec.specs.ListLaws.{numbers_from}
+use Rattle.term_spec.proofs.ListLaws.{All, all_take, map-take, map-drop}
 use Rattle.view_spec.specs.Node.{Node, node_at, meaning, GoodNodes}
-use Rattle.view_spec.specs.NodeLaws.{NodeAt, node_at_lem, meaning_nil, meaning-cons, meaning-concat}
+use Rattle.view_spec.proofs.NodeLaws.{NodeAt, node_at_lem, meaning_nil, meaning-cons, meaning-concat}
 use Rattle.places.specs.CopyLaws.{sets-snoc}
 
 -- ---- numbers from s on ----

@@ -4,11 +4,12 @@ use Rattle.std.proofs.Common.{ap, ap₂, sym, ◌∙◌, append-nil, inl, inr, l
 use Rattle.std.proofs.lemmas.List.Edits.{sets, sets-eq}
 use Rattle.std.proofs.Math.Seq.{drop-append-add, set_out}
 use Rattle.std.proofs.Math.Decide.{dec_lt, ℕ_discrete}
-use Rattle.term_spec.specs.ListLaws.{numbers_from, All, part-below, part-kept, part_length}
+use Rattle.term_spec.specs.ListLaws.{numbers_from}
+use Rattle.term_spec.proofs.ListLaws.{All, part-below, part-kept, part_length}
 use Rattle.term_spec.specs.Term.{limit}
-use Rattle.term_spec.specs.WordsLaws.{decode-length}
+use Rattle.term_spec.proofs.WordsLaws.{decode-length}
 use Rattle.view_spec.specs.Node.{Node, Field, cons_kind, node_at, meaning, nodes_rule}
-use Rattle.view_spec.specs.NodeLaws.{ConsAt, ConcatAt, node_at_lem}
+use Rattle.view_spec.proofs.NodeLaws.{ConsAt, ConcatAt, node_at_lem}
 use Rattle.nodes.specs.NodeStore.{nodes_in, NodeStore, Reaches}
 use Rattle.places.specs.Rest.{Rest, rest, waiting, gives, passed, entered}
 use Rattle.places.specs.RestLaws.{none_wait, entered-node, reach_length, cons-at, ready_short, ready_low, ready_concat}

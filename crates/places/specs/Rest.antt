@@ -1,7 +1,7 @@
 -- What is to be read of a rope next: a piece of a node's terms, then the fields that wait on a stack of words, two words to a field.
 use Rattle.std.specs.Prelude.{List, [], ◌∷◌, ◌++◌, length, get_or, take, drop, ℕ, suc, zero, ◌+◌, ◌*◌, ◌-◌, ◌≤◌, ◌<◌}
 use Rattle.std.proofs.Math.Decide.{dec_lt}
-use Rattle.term_spec.specs.ListLaws.{All}
+use Rattle.term_spec.proofs.ListLaws.{All}
 use Rattle.view_spec.specs.Build.{if_dec}
 use Rattle.view_spec.specs.Node.{Node, Field, node_at, meaning, holds}
 

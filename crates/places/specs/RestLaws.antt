@@ -7,11 +7,11 @@ use Rattle.std.proofs.Math.Logic.{inl, inr}
 use Rattle.std.proofs.Math.ListN.{take, length-drop}
 use Rattle.std.proofs.Math.Decide.{dec_lt}
 use native.Mathlib.Omega.{arith}
-use Rattle.term_spec.specs.ListLaws.{All, take_left, take-right, drop-left, drop-right}
+use Rattle.term_spec.proofs.ListLaws.{All, take_left, take-right, drop-left, drop-right}
 use Rattle.term_spec.specs.Term.{limit}
 use Rattle.view_spec.specs.Node.{Node, Field, cons_kind, node_at, meaning, holds, nodes_rule}
-use Rattle.view_spec.specs.NodeLaws.{NodeAt, ConsAt, ConcatAt, node_at_lem, reach_is, head_length}
-use Rattle.view_spec.specs.PlanLaws.{left-fits, if_yes, if_no}
+use Rattle.view_spec.proofs.NodeLaws.{NodeAt, ConsAt, ConcatAt, node_at_lem, reach_is, head_length}
+use Rattle.view_spec.proofs.PlanLaws.{left-fits, if_yes, if_no}
 use Rattle.places.specs.LinkLaws.{onward, cons_link, concat_link, link_on, link_in}
 use Rattle.places.specs.Rest.{Rest, rest, field, waiting, gives, remain, Waits, Ready, popped, passed, entered}
 

@@ -8,14 +8,14 @@ use Rattle.std.proofs.Math.ListN.{get_or-map}
 use Prim.Native.Nat.{ℕ, suc, zero, ◌+◌, ◌-◌, ◌/◌, ◌<◌, ◌≤◌}
 use Rattle.std.proofs.Math.Decide.{ℕ_discrete}
 use Rattle.term_spec.specs.Words.{decode, record_at, records, count}
-use Rattle.term_spec.specs.WordsLaws.{decode-length}
+use Rattle.term_spec.proofs.WordsLaws.{decode-length}
 use Rattle.term_spec.specs.Text.{text_at}
 use Rattle.term_spec.specs.Term.{Term, Run, no_run, term_layout, run_layout}
 use Rattle.term_spec.specs.Value.{Value, Single, symbol, term, value_k, value_of, canon, contents, row, same?, takes, takes?, decided, is_yes}
 use Rattle.match_spec.specs.Element.{Element, canon_e, Level, Env}
 use Rattle.match_spec.specs.Pattern.{Item, item_layout, element, element_k, item_rule_k, pattern_rule}
 use Rattle.match_spec.specs.Walk.{strip, if_fits, at_head, through, if_known, rigid_fits}
-use Rattle.match_spec.specs.RunLaws.{back_shows}
+use Rattle.match_spec.proofs.RunLaws.{back_shows}
 use Rattle.value.specs.Equal.{spec_equal_symbols, spec_equal_runs, values_in}
 use Rattle.value.specs.EqualLaws.{value_at}
 use Rattle.kinds.specs.Kinds.{takes_term}

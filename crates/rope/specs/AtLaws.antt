@@ -3,10 +3,11 @@ use Rattle.std.specs.Prelude.{◌≡◌, refl, List, [], ◌∷◌, ◌++◌, le
 use Rattle.std.proofs.Common.{ap, ap₂, sym, ◌∙◌, length-drop, take-suc, take-take, drop-drop, length-take-le, add-one, arith}
 use Rattle.std.proofs.lemmas.List.{map-append, length-map}
 use Rattle.std.proofs.lemmas.List.Edits.{sets}
-use Rattle.term_spec.specs.ListLaws.{numbers_from, map-take, map-drop, drop-take, part-below}
+use Rattle.term_spec.specs.ListLaws.{numbers_from}
+use Rattle.term_spec.proofs.ListLaws.{map-take, map-drop, drop-take, part-below}
 use Rattle.term_spec.specs.Term.{Term, term_layout}
 use Rattle.term_spec.specs.Words.{Lies, decode, record_at, encode, write}
-use Rattle.term_spec.specs.WordsLaws.{term_lays, term-keeps, decode-length, decode-take, encode-decode, write-length, write-append, write_none}
+use Rattle.term_spec.proofs.WordsLaws.{term_lays, term-keeps, decode-length, decode-take, encode-decode, write-length, write-append, write_none}
 use Rattle.view_spec.specs.Node.{meaning}
 use Rattle.nodes.specs.NodeStore.{nodes_in, NodeStore, Reaches}
 use Rattle.places.specs.Places.{PartRead, ShowsPart}

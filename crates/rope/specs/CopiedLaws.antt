@@ -3,12 +3,12 @@ use Rattle.std.specs.Prelude.{◌≡◌, List, [], ◌++◌, T, length, take, dr
 use Rattle.std.proofs.Common.{ap, ap₂, sym, ◌∙◌, append_assoc, length-drop, take-append-drop, take_at, take-take, length-take-le, arith}
 use Rattle.std.proofs.lemmas.List.Edits.{sets, sets-eq}
 use Rattle.std.proofs.lemmas.List.{drop-append-le}
-use Rattle.term_spec.specs.ListLaws.{drop-take, part-below, part_length}
+use Rattle.term_spec.proofs.ListLaws.{drop-take, part-below, part_length}
 use Rattle.term_spec.specs.Term.{Term, Run, part, term_layout, limit}
 use Rattle.term_spec.specs.Words.{Lies, decode, count, encode, write}
-use Rattle.term_spec.specs.WordsLaws.{term_lays, term-keeps, decode-length, decode-part, encode-decode, encode-length, write-length, write-append, write_none}
+use Rattle.term_spec.proofs.WordsLaws.{term_lays, term-keeps, decode-length, decode-part, encode-decode, encode-length, write-length, write-append, write_none}
 use Rattle.view_spec.specs.Node.{meaning, nodes_rule, GoodNodes}
-use Rattle.view_spec.specs.NodeLaws.{reach_limit, nodes-more}
+use Rattle.view_spec.proofs.NodeLaws.{reach_limit, nodes-more}
 use Rattle.nodes.specs.NodeStore.{nodes_in, NodeStore, AnyStore, Reaches}
 use Rattle.places.specs.Rest.{Rest, rest, waiting, passed}
 use Rattle.places.specs.RestLaws.{none_wait}

@@ -8,16 +8,16 @@ use borrow.Author.Tests.{eq-eqb, ne_eqb}
 use Rattle.std.proofs.Math.ListN.{get_or, take, drop, get_or-map}
 use Rattle.std.proofs.lemmas.List.{length-map}
 use native.Mathlib.Omega.{arith}
-use Rattle.term_spec.specs.ListLaws.{map-take, map-drop, drop-take, part-below}
+use Rattle.term_spec.proofs.ListLaws.{map-take, map-drop, drop-take, part-below}
 use Rattle.term_spec.specs.Term.{Run, limit}
-use Rattle.term_spec.specs.TermLaws.{values_length}
+use Rattle.term_spec.proofs.TermLaws.{values_length}
 use Rattle.term_spec.specs.Value.{Value, char, canon, forms, sames?, is_yes}
-use Rattle.term_spec.specs.ValueLaws.{is_yes_lem, is_no}
-use Rattle.term_spec.specs.WordsLaws.{decode-length}
+use Rattle.term_spec.proofs.ValueLaws.{is_yes_lem, is_no}
+use Rattle.term_spec.proofs.WordsLaws.{decode-length}
 use Rattle.view_spec.specs.Node.{Node, meaning, nodes_rule}
-use Rattle.view_spec.specs.NodeLaws.{reach_limit}
+use Rattle.view_spec.proofs.NodeLaws.{reach_limit}
 use Rattle.view_spec.specs.Read.{equal_terms}
-use Rattle.view_spec.specs.ReadLaws.{equal-terms}
+use Rattle.view_spec.proofs.ReadLaws.{equal-terms}
 use Rattle.nodes.specs.NodeStore.{nodes_in, NodeStore}
 use Rattle.value.specs.Equal.{values_in, spec_equal_runs}
 use Rattle.numbers.specs.Numbers.{form_at}

@@ -2,12 +2,13 @@
 -- numbers of the terms at their places.
 use Rattle.std.specs.Prelude.{◌≡◌, List, map, Bool, ◌&&◌, length, get_or, take, drop, ℕ, ◌+◌, ◌<◌, ◌≤◌}
 use Rattle.std.proofs.Common.{ap, ap₂, sym, ◌∙◌, get_or-take, get_or-drop, arith}
-use Rattle.term_spec.specs.ListLaws.{numbers_from, map-take, map-drop}
+use Rattle.term_spec.specs.ListLaws.{numbers_from}
+use Rattle.term_spec.proofs.ListLaws.{map-take, map-drop}
 use Rattle.term_spec.specs.Term.{term_layout}
-use Rattle.term_spec.specs.TermLaws.{values_length}
+use Rattle.term_spec.proofs.TermLaws.{values_length}
 use Rattle.term_spec.specs.Value.{char}
 use Rattle.term_spec.specs.Words.{decode}
-use Rattle.term_spec.specs.WordsLaws.{decode-length}
+use Rattle.term_spec.proofs.WordsLaws.{decode-length}
 use Rattle.view_spec.specs.Node.{meaning}
 use Rattle.view_spec.specs.Read.{equal_terms}
 use Rattle.nodes.specs.NodeStore.{nodes_in, NodeStore, Reaches}

@@ -3,12 +3,12 @@ use Rattle.std.specs.Prelude.{◌≡◌, List, [], ◌∷◌, ◌++◌, T, lengt
 use Rattle.std.proofs.Math.Path.{refl}
 use Rattle.std.proofs.Common.{ap, sym, ◌∙◌, append_assoc, append-nil, inl, inr, length-take-le, arith}
 use Prim.Native.Nat.{ℕ, ◌+◌, ◌-◌, ◌≤◌, ◌<◌, min}
-use Rattle.term_spec.specs.ListLaws.{All, drop-take, part-below}
+use Rattle.term_spec.proofs.ListLaws.{All, drop-take, part-below}
 use Rattle.term_spec.specs.Term.{Run, part, limit}
 use Rattle.term_spec.specs.Words.{record_at}
-use Rattle.term_spec.specs.WordsLaws.{decode-length}
+use Rattle.term_spec.proofs.WordsLaws.{decode-length}
 use Rattle.view_spec.specs.Node.{Node, Field, node_layout, cons_kind, node_at, meaning, nodes_rule}
-use Rattle.view_spec.specs.NodeLaws.{ConcatAt, node_at_lem}
+use Rattle.view_spec.proofs.NodeLaws.{ConcatAt, node_at_lem}
 use Rattle.nodes.specs.NodeStore.{nodes_in, AnyStore}
 use Rattle.nodes.specs.RuleLaws.{below_at}
 use Rattle.places.specs.Rest.{Rest, rest, field, gives, remain, Ready, passed}

@@ -2,7 +2,7 @@
 use Rattle.std.specs.Prelude.{◌≡◌, refl, ◌∷◌, Bool, false, not, T, leb, take, ℕ, suc, zero, ◌<◌, ◌≤◌}
 use Rattle.std.proofs.Common.{ap, sym, ◌∙◌, arith}
 use borrow.Author.Tests.{not-false, le-leb, lt-leb}
-use Rattle.term_spec.specs.BoolLaws.{true-T}
+use Rattle.term_spec.proofs.BoolLaws.{true-T}
 use Rattle.match_spec.specs.Pattern.{pattern_limit}
 use Rattle.term_spec.specs.Term.{run_list_limit}
 use Rattle.sheet_spec.specs.Sheet.{sheet_terms, sheet_names, limits}

@@ -3,7 +3,7 @@ use Rattle.std.specs.Prelude.{◌≡◌, refl, List, [], ◌∷◌, ◌++◌, Bo
 use Rattle.std.proofs.Common.{ap, ap₂, sym, subst, ◌∙◌, append_assoc, append-nil, leb→le, length-append, le-leb, mul-le-mul_right, arith}
 use Rattle.std.proofs.lemmas.List.{length-replicate}
 use Rattle.std.proofs.lemmas.Bool.{lt-leb}
-use Rattle.term_spec.specs.BoolLaws.{both_of, true-T}
+use Rattle.term_spec.proofs.BoolLaws.{both_of, true-T}
 use Rattle.term_spec.specs.Words.{whole, count, records}
 use Rattle.view_spec.specs.Node.{Field}
 use Rattle.match_spec.specs.Pattern.{item_layout, binding_layout, name_limit, elements, binding_names, names_after, pattern_rule, bindings_rule}
@@ -12,9 +12,9 @@ use Rattle.calls_spec.specs.Store.{Store}
 use Rattle.calls_spec.specs.Step.{Request, Call, call_match, Answer, refused, built, listed, answer_number, effect_of, slots_of, After, step, names_rule, spec_name_count}
 use Rattle.sheet_spec.specs.Sheet.{line}
 use Rattle.sheet_spec.specs.Job.{listing_slots, laid, laid_at, SheetAnswer, refused_sheet, wrote, written, refusal_text, entry_lines, listing_text, Fits}
-use Rattle.sheet_spec.specs.LineLaws.{line-length}
-use Rattle.sheet_spec.specs.LaidLaws.{laid_at-start, laid_at_next, laid_at-length}
-use Rattle.sheet_spec.specs.ShownLaws.{listing-fits}
+use Rattle.sheet_spec.proofs.LineLaws.{line-length}
+use Rattle.sheet_spec.proofs.LaidLaws.{laid_at-start, laid_at_next, laid_at-length}
+use Rattle.sheet_spec.proofs.ShownLaws.{listing-fits}
 use Rattle.sheet_form.specs.Form.{line_bytes, zeros}
 use Rattle.sheet_form.specs.FormLaws.{first-zeros}
 use Rattle.view.specs.Check.{leaves}

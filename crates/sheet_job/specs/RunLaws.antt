@@ -7,7 +7,7 @@ use Rattle.std.proofs.Math.Bool.{true, false}
 use Rattle.std.proofs.Math.ListN.{length, take}
 use Rattle.std.proofs.lemmas.List.{length-replicate, take-append-le}
 use Prim.Native.Nat.{ℕ, suc, zero, ◌+◌, ◌-◌, ◌*◌, ◌≤◌}
-use Rattle.term_spec.specs.BoolLaws.{both_of, true-T, T_true}
+use Rattle.term_spec.proofs.BoolLaws.{both_of, true-T, T_true}
 use Rattle.term_spec.specs.Words.{count}
 use Rattle.term_spec.specs.Term.{term_layout}
 use Rattle.calls_spec.specs.Store.{Store}
@@ -15,8 +15,8 @@ use Rattle.calls_spec.specs.Step.{call_from_runs, Effect, quiet, making, step}
 use Rattle.sheet_spec.specs.Sheet.{Sheet, term_columns, item_columns, run_columns, run_zeros, Counts, limits, counts_at, spec_names_start, head_rule, body_rule, sheet_at, spec_read_sheet}
 use Rattle.sheet_spec.specs.Job.{padded, lent_store, lent_request, match_on, match_text, job_text, answer_text, refusal_text}
 use Rattle.sheet_spec.specs.Job.{laid, spec_names_part, SheetAnswer, refused_sheet, wrote, counted, AfterSheet, unread, read_into}
-use Rattle.sheet_spec.specs.LineLaws.{words_length}
-use Rattle.sheet_spec.specs.SheetLaws.{HeadFacts, head_facts, facts_limits, read_some, read_none}
+use Rattle.sheet_spec.proofs.LineLaws.{words_length}
+use Rattle.sheet_spec.proofs.SheetLaws.{HeadFacts, head_facts, facts_limits, read_some, read_none}
 use Rattle.sheet_form.specs.Form.{zeros}
 use Rattle.sheet_read.specs.Read.{leaves_sheet, read_by}
 use Rattle.view.specs.Check.{store_of}

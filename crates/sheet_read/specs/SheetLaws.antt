@@ -6,12 +6,12 @@ use Rattle.std.proofs.Math.Option.{Option, some, none}
 use Rattle.std.proofs.Math.Bool.{true, false}
 use borrow.Author.Tests.{le-leb, lt-leb, eq-eqb, ne_eqb}
 use Rattle.std.proofs.Math.Dec.{leb}
-use Rattle.term_spec.specs.BoolLaws.{T_true}
+use Rattle.term_spec.proofs.BoolLaws.{T_true}
 use Rattle.sheet_spec.specs.Sheet.{column_width, count_columns, number_at, words_at, term_columns, item_columns, run_columns, run_zeros, Counts, spec_line_ok, spec_lines_ok, Sheet}
 use Rattle.sheet_spec.specs.Sheet.{terms_start, spec_names_start, spec_pattern_start, spec_runs_start, sheet_end, head_rule, body_rule, counts_at, sheet_at, spec_read_sheet}
 use Rattle.sheet_spec.specs.Job.{spec_names_part, laid, refused_sheet, counted, unread, read_into}
-use Rattle.sheet_spec.specs.LineLaws.{words_length}
-use Rattle.sheet_spec.specs.SheetLaws.{facts_limits, head_facts, read_none}
+use Rattle.sheet_spec.proofs.LineLaws.{words_length}
+use Rattle.sheet_spec.proofs.SheetLaws.{facts_limits, head_facts, read_none}
 use Rattle.sheet_form.specs.Form.{in_limits}
 use Rattle.sheet_read.specs.Read.{InForm, Holds, filled, leaves_sheet, read_by}
 

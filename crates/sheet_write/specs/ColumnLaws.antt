@@ -3,8 +3,8 @@ use Rattle.std.specs.Prelude.{◌≡◌, List, [], ◌∷◌, ◌++◌, true, fa
 use Rattle.std.proofs.Common.{ap, sym, ◌∙◌, arith}
 use Rattle.sheet_spec.specs.Sheet.{leading, column}
 use Rattle.sheet_spec.specs.Job.{laid_at}
-use Rattle.sheet_spec.specs.ColumnLaws.{leading_length}
-use Rattle.sheet_spec.specs.LaidLaws.{laid_at_none, laid_at-before}
+use Rattle.sheet_spec.proofs.ColumnLaws.{leading_length}
+use Rattle.sheet_spec.proofs.LaidLaws.{laid_at_none, laid_at-before}
 
 -- The last of k leading columns is written; what is left to write is the columns before it.
 pub leading_step : (old new : List ℕ) (p k v x : ℕ) → 0 < k → p + k ≤ length old → x ≡ elim (eqb v 0) [ true ↦ 32 | false ↦ 48 + v % 10 ] → new ≡ laid_at old (p + (k - 1)) (x ∷ [])

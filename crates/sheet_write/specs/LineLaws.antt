@@ -2,14 +2,14 @@
 use Rattle.std.specs.Prelude.{◌≡◌, List, [], ◌∷◌, ◌++◌, length, take, drop, replicate, get_or, set, ℕ, suc, zero, ◌+◌, ◌-◌, ◌*◌, ◌≤◌, ◌<◌}
 use Rattle.std.proofs.Common.{ap, ap₂, sym, ◌∙◌, append_assoc, append-nil, length-append, length-drop, take-suc, get_or-drop, drop-drop, length-take-le, take_all, arith, add-one}
 use Rattle.std.proofs.lemmas.List.{length-replicate}
-use Rattle.term_spec.specs.ListLaws.{part_length}
+use Rattle.term_spec.proofs.ListLaws.{part_length}
 use Rattle.sheet_spec.specs.Sheet.{column_width, count_columns, column, columns, line, line_width, lines}
 use Rattle.sheet_spec.specs.Job.{laid_at}
-use Rattle.sheet_spec.specs.ColumnLaws.{column-length}
-use Rattle.sheet_spec.specs.LineLaws.{columns-length, line-length, columns-append}
+use Rattle.sheet_spec.proofs.ColumnLaws.{column-length}
+use Rattle.sheet_spec.proofs.LineLaws.{columns-length, line-length, columns-append}
 use Rattle.sheet_form.specs.Form.{line_bytes, most_columns}
 use Rattle.sheet_form.specs.FormLaws.{first-zeros}
-use Rattle.sheet_spec.specs.LaidLaws.{laid_at_none, laid_at_next, laid_at_then, laid_at-snoc}
+use Rattle.sheet_spec.proofs.LaidLaws.{laid_at_none, laid_at_next, laid_at_then, laid_at-snoc}
 
 -- ---- a line of four numbers ----
 

@@ -10,9 +10,9 @@ use Rattle.match_spec.specs.Pattern.{item_layout}
 use Rattle.sheet_spec.specs.Sheet.{Sheet, line, lines, term_columns, item_columns, run_columns, run_zeros, sheet_text, sheet_rule}
 use Rattle.sheet_spec.specs.Sheet.{Counts, terms_start, spec_names_start, spec_pattern_start, spec_runs_start, sheet_end}
 use Rattle.sheet_spec.specs.Job.{refused_sheet, wrote, laid_at, laid, written, written_sheet}
-use Rattle.sheet_spec.specs.LineLaws.{line-length, lines-length}
-use Rattle.sheet_spec.specs.SheetLaws.{spec_counts_of, rule_facts, facts_limits, sheet-length}
-use Rattle.sheet_spec.specs.LaidLaws.{laid_at-start, laid_at_then}
+use Rattle.sheet_spec.proofs.LineLaws.{line-length, lines-length}
+use Rattle.sheet_spec.proofs.SheetLaws.{spec_counts_of, rule_facts, facts_limits, sheet-length}
+use Rattle.sheet_spec.proofs.LaidLaws.{laid_at-start, laid_at_then}
 use Rattle.sheet_form.specs.Form.{in_limits}
 
 -- ---- the parts ----

@@ -5,7 +5,7 @@ use mathlib.Core.List.{List, [], ◌∷◌, ◌++◌}
 use Rattle.std.proofs.lemmas.List.{set-get_or, set_comm}
 use Rattle.std.proofs.Math.Numerals.{add-one}
 use Rattle.term_spec.specs.Words.{decode, record_at}
-use Rattle.term_spec.specs.WordsLaws.{decode-at, decode-below, decode-length, decode-snoc}
+use Rattle.term_spec.proofs.WordsLaws.{decode-at, decode-below, decode-length, decode-snoc}
 use Rattle.term_spec.specs.Term.{Run, no_run, run_layout}
 use Rattle.words.specs.RecordLaws.{run_read}
 use Rattle.steps.specs.State.{stack_of, Restores}

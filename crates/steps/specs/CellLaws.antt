@@ -9,11 +9,11 @@ use Rattle.std.proofs.Math.Decide.{ℕ_discrete}
 use Rattle.term_spec.specs.Words.{decode, record_at}
 use Rattle.term_spec.specs.Term.{Term, Run, term_layout, part, contents_run}
 use Rattle.term_spec.specs.Value.{Value, char, Single, row, value_k, value_of, canon, forms, contents, same?, sames?, takes, takes?, decided, is_yes}
-use Rattle.term_spec.specs.ValueLaws.{canon_bracketed, contents-bracketed, takes_canon, is_yes_lem, yes_of}
+use Rattle.term_spec.proofs.ValueLaws.{canon_bracketed, contents-bracketed, takes_canon, is_yes_lem, yes_of}
 use Rattle.match_spec.specs.Element.{Level}
 use Rattle.match_spec.specs.Walk.{cells_of, runs, strip}
-use Rattle.match_spec.specs.WalkLaws.{strip-at, strip-sound}
-use Rattle.match_spec.specs.RunLaws.{front-shows}
+use Rattle.match_spec.proofs.WalkLaws.{strip-at, strip-sound}
+use Rattle.match_spec.proofs.RunLaws.{front-shows}
 use Rattle.value.specs.Equal.{spec_equal_symbols, spec_equal_runs, values_in}
 use Rattle.value.specs.EqualLaws.{values_differ, value_alone, value_at, run_size, first_of}
 use Rattle.kinds.specs.Kinds.{takes_term}

@@ -2,9 +2,9 @@
 use Rattle.std.specs.Prelude.{◌≡◌, refl, List, [], ◌∷◌, T, length, get_or, drop, ℕ, suc, zero, ◌+◌, ◌<◌, ◌≤◌}
 use Rattle.std.proofs.Common.{ap, ◌∙◌, drop_of_length-le, get_or-drop, add-one, arith}
 use Rattle.term_spec.specs.Words.{record_at, records, count}
-use Rattle.term_spec.specs.WordsLaws.{decode-length, decode-at}
+use Rattle.term_spec.proofs.WordsLaws.{decode-length, decode-at}
 use Rattle.match_spec.specs.Pattern.{Item, no_item, item_layout, item_rule_k, pattern_rule}
-use Rattle.match_spec.specs.PatternLaws.{item_at}
+use Rattle.match_spec.proofs.PatternLaws.{item_at}
 use Rattle.steps.specs.State.{coded, coded_all}
 
 coded-drop : (names : List ℕ) (p : ℕ) (ts : List Item) (xs : List ℕ) → p < length ts

@@ -1,13 +1,13 @@
 -- Where the walk stands, as the code keeps it, and the pattern as the code reads it.
 use Rattle.std.specs.Prelude.{◌≡◌, Bool, true, List, [], ◌∷◌, T, length, get_or, set, drop, ℕ, suc, zero, ◌+◌, ◌-◌, ◌*◌, ◌<◌, ◌≤◌}
-use Rattle.term_spec.specs.ListLaws.{All}
+use Rattle.term_spec.proofs.ListLaws.{All}
 use Rattle.term_spec.specs.Words.{Lies, decode, record_at, records, count}
 use Rattle.value.specs.Equal.{TermStore}
 use Rattle.term_spec.specs.Term.{Run, limit, no_run, run_layout, term_layout}
 use Rattle.match_spec.specs.Element.{Element, lit, opening, closing, call, one, many, canon_e, Level}
 use Rattle.match_spec.specs.Pattern.{Item, Name, element, item_layout, pattern_rule, pattern_limit, nesting_limit, name_limit, expression_variable_kind}
 use Rattle.match_spec.specs.Walk.{Reading, runs, cells_of}
-use Rattle.match_spec.specs.RunLaws.{Inside}
+use Rattle.match_spec.proofs.RunLaws.{Inside}
 use Rattle.steps.specs.Turn.{Turn, stop, next, split, called, turn}
 use Rattle.steps.specs.declared.State.{State}
 use Rattle.steps.specs.declared.What.{What}

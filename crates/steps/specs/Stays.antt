@@ -1,10 +1,10 @@
 -- Where the walk may stand, and what a turn keeps of that: the runs stay inside the terms, the brackets and the names in step with the pattern.
 use Rattle.std.specs.Prelude.{◌≡◌, List, [], ◌∷◌, length, ℕ, suc, zero, ◌<◌, ◌≤◌, max}
-use Rattle.term_spec.specs.ListLaws.{All}
+use Rattle.term_spec.proofs.ListLaws.{All}
 use Rattle.term_spec.specs.Term.{Run}
 use Rattle.match_spec.specs.Element.{Element, lit, opening, closing, call, one, many}
 use Rattle.match_spec.specs.Pattern.{nesting_limit}
-use Rattle.match_spec.specs.RunLaws.{Inside}
+use Rattle.match_spec.proofs.RunLaws.{Inside}
 use Rattle.steps.specs.Turn.{Turn, stop, next, split, called}
 
 -- A pattern that fits d brackets around it, b entries known before it and m entries in all.

@@ -7,16 +7,16 @@ use Rattle.std.proofs.Math.Seq.{drop-cons}
 use Prim.Native.Nat.{ℕ, suc, zero, ◌+◌, ◌-◌, ◌*◌, ◌/◌, ◌<◌, ◌≤◌}
 use native.Mathlib.Omega.{arith}
 use Rattle.std.proofs.Math.Decide.{dec_lt}
-use Rattle.term_spec.specs.ListLaws.{All}
+use Rattle.term_spec.proofs.ListLaws.{All}
 use Rattle.term_spec.specs.Text.{text_at}
 use Rattle.term_spec.specs.Words.{decode, record_at, records, count}
-use Rattle.term_spec.specs.WordsLaws.{decode-at, decode-length}
+use Rattle.term_spec.proofs.WordsLaws.{decode-at, decode-length}
 use Rattle.term_spec.specs.Term.{Term, Run, no_run, term_layout, no_term, contents_run, term_rule_k}
 use Rattle.term_spec.specs.Value.{Single, symbol, term, row, value_k, value_of, canon, sames?}
 use Rattle.match_spec.specs.Element.{Element, lit, opening, closing, call, one, many, canon_e}
 use Rattle.match_spec.specs.Pattern.{Item, no_item, item_layout, element, element_k, item_rule_k}
 use Rattle.match_spec.specs.Walk.{Reading, cells_of, runs, strip, ends}
-use Rattle.match_spec.specs.RunLaws.{Inside}
+use Rattle.match_spec.proofs.RunLaws.{Inside}
 use Rattle.value.specs.Equal.{Texts, TermStore, spec_equal_symbols, spec_equal_runs}
 use Rattle.value.specs.EqualLaws.{in_names, texts_at}
 use Rattle.kinds.specs.Kinds.{takes_term}

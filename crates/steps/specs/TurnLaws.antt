@@ -10,17 +10,17 @@ use Rattle.std.proofs.Math.ListN.{length, length-append}
 use Prim.Native.Nat.{ℕ, suc, zero, ◌+◌, ◌-◌, ◌<◌, ◌≤◌, max}
 use Rattle.std.proofs.Math.Decide.{dec_lt}
 use native.Mathlib.Omega.{arith}
-use Rattle.term_spec.specs.ListLaws.{All, all_snoc}
-use Rattle.term_spec.specs.ValueLaws.{bracketed-contents}
+use Rattle.term_spec.proofs.ListLaws.{All, all_snoc}
+use Rattle.term_spec.proofs.ValueLaws.{bracketed-contents}
 use Rattle.term_spec.specs.Term.{Term, Run}
-use Rattle.term_spec.specs.TermLaws.{Valid}
+use Rattle.term_spec.proofs.TermLaws.{Valid}
 use Rattle.term_spec.specs.Value.{Value, contents, same?, sames?, takes?}
 use Rattle.match_spec.specs.Element.{Element, lit, opening, closing, call, one, many, Level}
 use Rattle.match_spec.specs.Listing.{guard, enter}
 use Rattle.match_spec.specs.Walk.{Event, reached, Reading, runs, cells_of, strip, ends, with_head, take_first, if_empty, leave_level, bind_run, top_level, spread}
 use Rattle.match_spec.specs.Walk.{walk}
-use Rattle.match_spec.specs.WalkLaws.{strip-sound}
-use Rattle.match_spec.specs.RunLaws.{Inside, inner_inside, cells_few}
+use Rattle.match_spec.proofs.WalkLaws.{strip-sound}
+use Rattle.match_spec.proofs.RunLaws.{Inside, inner_inside, cells_few}
 use Rattle.steps.specs.Turn.{Turn, stop, next, called, turn_if, turn_enter, turn_head, turn_empty, turn_first, turn_leave, turn_bind, turn_spread, turn_top}
 use Rattle.steps.specs.Turn.{turn, one_split, onward}
 use Rattle.steps.specs.Stays.{Sound, Stays, Kept, Grows}

@@ -4,12 +4,5 @@ pub mod Text
 pub mod Table
 pub mod Term
 pub mod Value
-pub mod BoolLaws
 pub mod ListLaws
-pub mod TableLaws
 pub mod ValueLaws
-pub mod CommonLaws
-pub mod WordsLaws
-pub mod TermLaws
-pub mod TextExamples
-pub mod TermExamples

@@ -2,7 +2,8 @@
 use Rattle.std.specs.Prelude.{◌≡◌, refl, List, [], ◌∷◌, map, get_or, ℕ, ◌<◌}
 use Rattle.std.proofs.Common.{ap, sym, ◌∙◌, zero-add}
 use Rattle.term_spec.specs.Text.{lower}
-use Rattle.term_spec.specs.ListLaws.{numbers_from, map_numbers}
+use Rattle.term_spec.specs.ListLaws.{numbers_from}
+use Rattle.term_spec.proofs.ListLaws.{map_numbers}
 
 -- How many bytes there are.
 abbrev pub byte_count : ℕ

@@ -3,11 +3,11 @@ use Rattle.std.specs.Prelude.{◌≡◌, refl, List, [], ◌∷◌, ◌++◌, Bo
 use Rattle.std.proofs.Common.{ap, sym, ◌∙◌, eqb→eq, take-take, drop-drop, arith}
 use Rattle.std.proofs.lemmas.Bool.{false≢true}
 use borrow.Author.Tests.{ne_eqb}
-use Rattle.term_spec.specs.BoolLaws.{true-T}
+use Rattle.term_spec.proofs.BoolLaws.{true-T}
 use Rattle.term_spec.specs.Text.{every, zero_digit, is_zero, stripped, text_at}
 use Rattle.term_spec.specs.Value.{num, canon}
-use Rattle.term_spec.specs.ValueLaws.{is_no, alike}
-use Rattle.term_spec.specs.ListLaws.{drop-take, part_length}
+use Rattle.term_spec.proofs.ValueLaws.{is_no, alike}
+use Rattle.term_spec.proofs.ListLaws.{drop-take, part_length}
 use Rattle.text.specs.Texts.{texts_equal, numbers_equal}
 use Rattle.text.specs.TextLaws.{text_first, unfolded}
 

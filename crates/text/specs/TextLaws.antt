@@ -4,12 +4,12 @@ use Rattle.std.proofs.Common.{ap, ap₂, sym, ◌∙◌, leb→le, drop-cons, ad
 use borrow.Author.Tests.{le-leb, lt-leb}
 use Rattle.std.proofs.lemmas.List.{length-map}
 use Rattle.std.proofs.Math.Nat.{sub-zero}
-use Rattle.term_spec.specs.BoolLaws.{both_of}
+use Rattle.term_spec.proofs.BoolLaws.{both_of}
 use Rattle.term_spec.specs.Text.{spec_is_letter, every, identifier_text, number_text, variable_text, text_at, text_limit, text_rule}
 use Rattle.term_spec.specs.Term.{identifier_kind, number_kind}
 use Rattle.term_spec.specs.Value.{ident, canon}
-use Rattle.term_spec.specs.ValueLaws.{is_yes_lem, is_no, yes_of, alike}
-use Rattle.term_spec.specs.ListLaws.{part_length}
+use Rattle.term_spec.proofs.ValueLaws.{is_yes_lem, is_no, yes_of, alike}
+use Rattle.term_spec.proofs.ListLaws.{part_length}
 use Rattle.text.specs.Texts.{byte_test, spelled, spelling, folded, texts_equal, identifiers_equal}
 
 -- ---- a text byte by byte ----

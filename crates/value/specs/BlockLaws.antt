@@ -8,12 +8,12 @@ use Rattle.std.proofs.lemmas.List.{set-get_or}
 use Prim.Native.Nat.{ℕ, suc, zero, ◌+◌, ◌*◌, ◌-◌, ◌/◌, ◌<◌, ◌≤◌, max, min}
 use Rattle.std.proofs.Math.Decide.{ℕ_discrete, dec_lt}
 use native.Mathlib.Omega.{arith}
-use Rattle.term_spec.specs.BoolLaws.{true-T}
-use Rattle.term_spec.specs.ListLaws.{zeros-at}
+use Rattle.term_spec.proofs.BoolLaws.{true-T}
+use Rattle.term_spec.proofs.ListLaws.{zeros-at}
 use Rattle.term_spec.specs.Words.{decode, record_at}
-use Rattle.term_spec.specs.WordsLaws.{decode-snoc, record_drop}
+use Rattle.term_spec.proofs.WordsLaws.{decode-snoc, record_drop}
 use Rattle.term_spec.specs.Term.{Term, term_layout, bracket_kind, depth_limit, depth_k, deepest, term_rule}
-use Rattle.term_spec.specs.TermLaws.{bracket_of, rule_by_kind}
+use Rattle.term_spec.proofs.TermLaws.{bracket_of, rule_by_kind}
 use Rattle.value.specs.Check.{run_of}
 use Rattle.value.specs.CheckLaws.{depth_bracket, depth_other}
 use Rattle.value.specs.Blocks.{spec_low_block, spec_high_block, Whole, Blocks, deepened, Filled, Tables}

@@ -7,7 +7,7 @@ use Rattle.std.proofs.Math.ListN.{length, drop}
 use Rattle.std.proofs.Math.Seq.{drop-cons, drop-length}
 use Prim.Native.Nat.{ℕ, suc, zero, ◌+◌, ◌/◌, ◌%◌, ◌<◌, ◌≤◌, min}
 use Rattle.term_spec.specs.Words.{decode, record_at, count, whole}
-use Rattle.term_spec.specs.WordsLaws.{decode-at, decode-length, decode-part, decode-snoc}
+use Rattle.term_spec.proofs.WordsLaws.{decode-at, decode-length, decode-part, decode-snoc}
 use Rattle.term_spec.specs.Text.{text_rule}
 use Rattle.term_spec.specs.Refusal.{uneven, bad_term}
 use Rattle.term_spec.specs.Term.{Term, no_term, term_layout, char_kind, number_kind, bracket_kind, unknown_kind, expression_unknown, limit, depth_limit}

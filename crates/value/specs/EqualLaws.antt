@@ -10,18 +10,18 @@ use Rattle.std.proofs.lemmas.List.{length-map}
 use Prim.Native.Nat.{ℕ, suc, zero, ◌+◌, ◌*◌, ◌-◌, ◌<◌, ◌≤◌, min}
 use Rattle.std.proofs.Math.Nat.{add-zero, sub-zero}
 use native.Mathlib.Omega.{arith}
-use Rattle.term_spec.specs.BoolLaws.{both_of, and_of, eq→eqb}
-use Rattle.term_spec.specs.ListLaws.{part-below, part_length}
+use Rattle.term_spec.proofs.BoolLaws.{both_of, and_of, eq→eqb}
+use Rattle.term_spec.proofs.ListLaws.{part-below, part_length}
 use Rattle.term_spec.specs.Words.{decode, record_at, count, whole}
-use Rattle.term_spec.specs.WordsLaws.{term_lays, count_fits, decode-length, decode-at, decode-below, decode-part, record_drop}
+use Rattle.term_spec.proofs.WordsLaws.{term_lays, count_fits, decode-length, decode-at, decode-below, decode-part, record_drop}
 use Rattle.term_spec.specs.Text.{identifier_text, number_text, text_at, text_rule}
 use Rattle.term_spec.specs.Refusal.{uneven, bad_term}
 use Rattle.term_spec.specs.Term.{Term, term_layout, no_term, part, char_kind, identifier_kind, number_kind, bracket_kind, unknown_kind, limit}
 use Rattle.term_spec.specs.Term.{contents_run, depth_k, deepest, symbol_rule, term_rule_k, terms_rule}
-use Rattle.term_spec.specs.TermLaws.{BracketFacts, bracket_of, rule_by_kind, term-at, values_length}
-use Rattle.term_spec.specs.TableLaws.{table_at}
+use Rattle.term_spec.proofs.TermLaws.{BracketFacts, bracket_of, rule_by_kind, term-at, values_length}
+use Rattle.term_spec.proofs.TableLaws.{table_at}
 use Rattle.term_spec.specs.Value.{Value, char, unknown, bracketed, value_k, value_of, values, canon, forms, column, unknown_column, heads?, list?, same?, sames?, is_yes}
-use Rattle.term_spec.specs.ValueLaws.{canon_bracketed, equal_brackets, equal-columns, is_yes_lem, is_no, alike}
+use Rattle.term_spec.proofs.ValueLaws.{canon_bracketed, equal_brackets, equal-columns, is_yes_lem, is_no, alike}
 use Rattle.text.specs.Texts.{identifiers_equal, numbers_equal}
 use Rattle.text.specs.TextLaws.{text_within}
 use Rattle.value.specs.Check.{run_of, unless, terms_counts, terms_number}

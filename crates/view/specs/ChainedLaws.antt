@@ -5,12 +5,12 @@ use Rattle.std.proofs.Common.{◌∙◌, arith}
 use Rattle.std.proofs.Math.Decide.{ℕ_discrete}
 use Rattle.term_spec.specs.Refusal.{nodes_full}
 use Rattle.term_spec.specs.Words.{write}
-use Rattle.term_spec.specs.WordsLaws.{decode-length}
+use Rattle.term_spec.proofs.WordsLaws.{decode-length}
 use Rattle.term_spec.specs.Term.{Run}
 use Rattle.view_spec.specs.Node.{Field, node_layout, empty_field}
 use Rattle.view_spec.specs.Build.{fuse, chain, chain_head, total, spec_from_runs}
-use Rattle.view_spec.specs.ChainLaws.{chain_length}
-use Rattle.view_spec.specs.PlanLaws.{if_yes}
+use Rattle.view_spec.proofs.ChainLaws.{chain_length}
+use Rattle.view_spec.proofs.PlanLaws.{if_yes}
 use Rattle.calls_spec.specs.Store.{capacity}
 use Rattle.calls_spec.specs.Step.{built, refused}
 use Rattle.nodes.specs.NodeStore.{nodes_in, NodeStore}

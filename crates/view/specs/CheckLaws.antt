@@ -8,7 +8,7 @@ use borrow.Author.Tests.{leb-true, le-leb, lt-leb, eq-eqb, ne_eqb}
 use Prim.Native.Nat.{ℕ, suc, ◌*◌, ◌/◌, ◌%◌, ◌<◌, ◌≤◌, min}
 use Rattle.std.proofs.Math.Decide.{dec_le}
 use native.Mathlib.Omega.{arith}
-use Rattle.term_spec.specs.BoolLaws.{both_of, true-T, T_true}
+use Rattle.term_spec.proofs.BoolLaws.{both_of, true-T, T_true}
 use Rattle.term_spec.specs.Words.{whole, count, Lies}
 use Rattle.term_spec.specs.Term.{term_layout, limit}
 use Rattle.view_spec.specs.Node.{Field, node_layout, field_rule}

@@ -10,10 +10,10 @@ use native.Mathlib.Omega.{arith}
 use Rattle.term_spec.specs.Refusal.{nodes_full}
 use Rattle.term_spec.specs.Term.{limit}
 use Rattle.term_spec.specs.Words.{Lies, count, write}
-use Rattle.term_spec.specs.WordsLaws.{decode-length}
+use Rattle.term_spec.proofs.WordsLaws.{decode-length}
 use Rattle.view_spec.specs.Node.{Node, Field, node_layout}
 use Rattle.view_spec.specs.Build.{Built, drop_plan, drop_makes, drop_node, shrink, take_field, rest, range}
-use Rattle.view_spec.specs.DropLaws.{shrink-length}
+use Rattle.view_spec.proofs.DropLaws.{shrink-length}
 use Rattle.calls_spec.specs.Store.{capacity}
 use Rattle.calls_spec.specs.Step.{Answer, built, refused, Effect, quiet, making, effect_of}
 use Rattle.nodes.specs.NodeStore.{nodes_in}

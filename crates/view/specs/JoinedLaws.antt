@@ -7,12 +7,12 @@ use Rattle.std.proofs.Math.Seq.{drop-length}
 use Rattle.term_spec.specs.Refusal.{nodes_full}
 use Rattle.term_spec.specs.Term.{limit}
 use Rattle.term_spec.specs.Words.{Lies, record_at, count, write}
-use Rattle.term_spec.specs.WordsLaws.{decode-length, write_none}
+use Rattle.term_spec.proofs.WordsLaws.{decode-length, write_none}
 use Rattle.view_spec.specs.Node.{Node, Field, node_layout, node_at, Piece}
-use Rattle.view_spec.specs.NodeLaws.{node_lays, node_some}
+use Rattle.view_spec.proofs.NodeLaws.{node_lays, node_some}
 use Rattle.view_spec.specs.Build.{Built, last, unclamp, plan, plan_makes, join_by, join}
-use Rattle.view_spec.specs.JoinLaws.{grow-length}
-use Rattle.view_spec.specs.PlanLaws.{unclamped}
+use Rattle.view_spec.proofs.JoinLaws.{grow-length}
+use Rattle.view_spec.proofs.PlanLaws.{unclamped}
 use Rattle.calls_spec.specs.Store.{capacity}
 use Rattle.calls_spec.specs.Step.{built, refused}
 use Rattle.nodes.specs.NodeStore.{nodes_in, NodeStore, AnyStore, Reaches}

@@ -10,19 +10,19 @@ use Rattle.std.proofs.Math.ListN.{length}
 use Prim.Native.Nat.{ℕ, ◌+◌, ◌/◌, ◌<◌, ◌≤◌, min}
 use native.Mathlib.Omega.{arith}
 use Rattle.term_spec.specs.Refusal.{uneven, bad_term, bad_node, bad_field, past_end, too_long}
-use Rattle.term_spec.specs.BoolLaws.{true-T}
-use Rattle.term_spec.specs.WordsLaws.{term_lays, decode-length, count_fits}
+use Rattle.term_spec.proofs.BoolLaws.{true-T}
+use Rattle.term_spec.proofs.WordsLaws.{term_lays, decode-length, count_fits}
 use Rattle.term_spec.specs.Words.{whole, count, records}
 use Rattle.term_spec.specs.Term.{term_layout, run_layout, runs_rule, limit}
 use Rattle.value.specs.Check.{terms_counts}
 use Rattle.value.specs.Equal.{TermStore}
 use Rattle.view_spec.specs.Node.{Field, node_layout, empty_field, node_at, each_node, nodes_rule, field_rule}
-use Rattle.view_spec.specs.NodeLaws.{field_facts}
+use Rattle.view_spec.proofs.NodeLaws.{field_facts}
 use Rattle.calls_spec.specs.Store.{Store, terms, nodes, capacity, counts_rule, store_terms, store_nodes, add_nodes}
 use Rattle.view_spec.specs.Build.{Built, spec_from_runs, total, take_field, rest, range, join}
 use Rattle.calls_spec.specs.Step.{Call, Answer, refused, built, call_from_runs, call_take, call_rest, call_range, call_join}
 use Rattle.calls_spec.specs.Step.{ask, given, even_rule, slots_lent, work_lent, adds_nodes, fits, changed, deed, arguments, new_nodes, input, room, accept, refuse, decide, step}
-use Rattle.calls_spec.specs.StepLaws.{after_build}
+use Rattle.calls_spec.proofs.StepLaws.{after_build}
 use Rattle.nodes.specs.NodeStore.{nodes_in, NodeStore, AnyStore, Reaches}
 use Rattle.view.specs.Check.{store_of, numbered, checked, leaves, grown_if, grown_by}
 use Rattle.view.specs.CheckLaws.{nonzero, and_true, and_left, and_right, nodes_even, even_fits, counts-apart}

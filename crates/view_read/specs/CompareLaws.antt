@@ -3,14 +3,14 @@ use Rattle.std.specs.Prelude.{◌≡◌, refl, List, [], Bool, true, false, ◌&
 use Rattle.std.proofs.Common.{ap, ap₂, sym, ◌∙◌, length-take, take-take, arith}
 use Rattle.std.proofs.Math.Option.{none}
 use Rattle.std.proofs.lemmas.List.{length-map}
-use Rattle.term_spec.specs.ListLaws.{map-take}
+use Rattle.term_spec.proofs.ListLaws.{map-take}
 use Rattle.term_spec.specs.Value.{Value, canon, forms, sames?, is_yes}
-use Rattle.term_spec.specs.ValueLaws.{is_no}
+use Rattle.term_spec.proofs.ValueLaws.{is_no}
 use Rattle.view_spec.specs.Node.{Field, field_rule, meaning, holds}
-use Rattle.view_spec.specs.NodeLaws.{facts_field, holds-length}
+use Rattle.view_spec.proofs.NodeLaws.{facts_field, holds-length}
 use Rattle.view_spec.specs.Read.{equal_terms, starts_with}
 use Rattle.calls_spec.specs.Store.{Store, nodes, terms, spelled, field_terms}
-use Rattle.calls_spec.specs.StoreLaws.{nodes-length, spelled-length}
+use Rattle.calls_spec.proofs.StoreLaws.{nodes-length, spelled-length}
 use Rattle.calls_spec.specs.Step.{Call, refused, truth, call_starts_with, call_equal, ask, given, even_rule, slots_lent, work_lent, fits, changed, deed, arguments, room, accept, step}
 use Rattle.nodes.specs.NodeStore.{nodes_in}
 use Rattle.value.specs.Equal.{values_in}

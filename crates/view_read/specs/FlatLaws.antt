@@ -6,14 +6,14 @@ use Rattle.std.proofs.lemmas.Bool.{lt-leb}
 use Rattle.std.proofs.Math.ListN.{length}
 use native.Mathlib.Omega.{arith}
 use Rattle.term_spec.specs.Words.{decode, count, write, Lies}
-use Rattle.term_spec.specs.WordsLaws.{term_lays, decode-length, decode-take, decode-part, decode-write, write-length}
-use Rattle.term_spec.specs.ListLaws.{part_length}
-use Rattle.term_spec.specs.TermLaws.{run_facts}
+use Rattle.term_spec.proofs.WordsLaws.{term_lays, decode-length, decode-take, decode-part, decode-write, write-length}
+use Rattle.term_spec.proofs.ListLaws.{part_length}
+use Rattle.term_spec.proofs.TermLaws.{run_facts}
 use Rattle.term_spec.specs.Term.{Term, term_layout, Run}
 use Rattle.view_spec.specs.Node.{Field, holds}
-use Rattle.view_spec.specs.NodeLaws.{facts_field}
+use Rattle.view_spec.proofs.NodeLaws.{facts_field}
 use Rattle.view_spec.specs.Read.{Place, stored, scattered, place, copy_at}
-use Rattle.view_spec.specs.ReadLaws.{place-shows}
+use Rattle.view_spec.proofs.ReadLaws.{place-shows}
 use Rattle.calls_spec.specs.Store.{Store, terms, nodes}
 use Rattle.calls_spec.specs.Step.{Answer, refused, in_store, in_work, shown_by, flat_answer, flat_work}
 use Rattle.view.specs.StepLaws.{Usable}

@@ -7,11 +7,11 @@ use borrow.Author.Tests.{le-leb, lt-leb, eq-eqb, ne_eqb}
 use Rattle.std.proofs.Math.Dec.{leb}
 use native.Mathlib.Omega.{arith}
 use Rattle.term_spec.specs.Words.{Lies, decode, records, record_at, count, whole, write}
-use Rattle.term_spec.specs.WordsLaws.{term_lays, decode-length, decode-part, write_none}
+use Rattle.term_spec.proofs.WordsLaws.{term_lays, decode-length, decode-part, write_none}
 use Rattle.term_spec.specs.Term.{term_layout, Run, no_run, limit}
 use Rattle.term_spec.specs.Refusal.{terms_full, work_short}
 use Rattle.view_spec.specs.Node.{Node, Field, node_layout, cons_kind, empty_field, node_at, field_rule, holds}
-use Rattle.view_spec.specs.NodeLaws.{facts_field, holds-length, holds_more}
+use Rattle.view_spec.proofs.NodeLaws.{facts_field, holds-length, holds_more}
 use Rattle.view_spec.specs.Read.{stored, scattered, place, copy_at, copy, settled_at, settled_run}
 use Rattle.calls_spec.specs.Store.{Store, terms, nodes, capacity}
 use Rattle.calls_spec.specs.Step.{Answer, refused, in_store, in_work, call_flatten, ask, given, flat_answer, flat_work, fits, changed, deed, input, room, accept, refuse, step}

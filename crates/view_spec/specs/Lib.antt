@@ -2,15 +2,4 @@ pub mod Node
 pub mod Build
 pub mod Read
 pub mod RustJoin
-pub mod NodeLaws
-pub mod ChainLaws
-pub mod PlanLaws
-pub mod JoinLaws
-pub mod DropLaws
-pub mod FieldLaws
-pub mod ReadLaws
-pub mod RustJoinLaws
-pub mod SettleLaws
 pub mod RustDrop
-pub mod RustDropLaws
-pub mod ViewExamples

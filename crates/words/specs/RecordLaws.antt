@@ -3,7 +3,7 @@ use Rattle.std.specs.Prelude.{◌≡◌, refl, List, [], ◌∷◌, ◌++◌, �
 use Rattle.std.proofs.Common.{ap, ap₂, sym, ◌∙◌, append-nil, arith, add-zero, suc-mul, add-one, get_or-take, get_or-drop}
 use Rattle.std.proofs.lemmas.List.Edits.{sets, sets-eq}
 use Rattle.term_spec.specs.Words.{Layout, Lies, record_at, encode, write}
-use Rattle.term_spec.specs.WordsLaws.{Lays}
+use Rattle.term_spec.proofs.WordsLaws.{Lays}
 use Rattle.term_spec.specs.Term.{Run as SpecRun, run_of, run_layout}
 
 -- ---- reading ----

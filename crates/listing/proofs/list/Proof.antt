@@ -12,83 +12,63 @@ use Rattle.listing.specs.ListLaws.{settled_from, start-inside, ready_start, slot
 use Rattle.listing.proofs.list.Statement.{statement}
 use Rattle.listing.proofs.list.Tie as tie
 
-returns : tie.Need-returns
+returns : tie.Need-returns-then-number-ne0
 unfolding matched_of
-returns c = exit_refused _ _ _ c.before.refusal.ensures c.if1.true
+returns c = exit_refused _ _ _ c.refusal-number.ensures c.if-number-ne0.true
 
-returns_2 : tie.Need-returns-2
+returns_2 : tie.Need-returns-then-bindings-gt-NAME_LIMIT
 unfolding matched_of
-returns_2 c = exit_start _ _ _ c.before.before.refusal.ensures c.before.if1.false c.if2.true
+returns_2 c = exit_start _ _ _ c.refusal-number.ensures c.if-number-ne0.false c.if-bindings-gt-NAME_LIMIT.true
 
-number_names_requires : tie.Need-number-names-requires
+number_names_requires : tie.Need-number_names-entries-requires
 number_names_requires c κs =
-    let at-passed = c.before.before in
-    let y = within_8 _ _ _ _ at-passed.before.refusal.ensures at-passed.if1.false in
+    let y = within_8 _ _ _ _ c.refusal-number.ensures c.if-number-ne0.false in
     ((y.short, search rules, search rules), (y.pattern, y.bindings))
 
-returns_3 : tie.Need-returns-3
+returns_3 : tie.Need-returns-then-entries-gt-NAME_LIMIT
 unfolding matched_of
 returns_3 c =
-    let at_Names = c.before.before in
-    let at-passed = at_Names.before.before.before in
-    exit_names _ _ _ at-passed.before.refusal.ensures at-passed.if1.false at_Names.number_names.ensures.0 c.if3.true
+    exit_names _ _ _ c.refusal-number.ensures c.if-number-ne0.false c.number_names-entries.ensures.0 c.if-entries-gt-NAME_LIMIT.true
 
 settle_requires : tie.Need-settle-requires
 settle_requires c κs =
-    let at-passed = c.before.before.before.before.before.before.before in
-    let y = within_8 _ _ _ _ at-passed.before.refusal.ensures at-passed.if1.false in
+    let y = within_8 _ _ _ _ c.refusal-number.ensures c.if-number-ne0.false in
     ((y.values.fits, y.terms), record { used = _; store = y.store; reaches = record { low = y.low; fits = y.within } })
 
-walk_from_requires : tie.Need-walk-from-requires
+walk_from_requires : tie.Need-walk_from-tally-requires
 unfolding settled_of
 walk_from_requires c κs =
-    let at_cap = c.before.before.before in
-    let at-run = at_cap.before.before in
-    let at-settle = at-run.before.before.before.before in
-    let at-few = at-settle.before.before.before in
-    let at_Names = at-few.before.before in
-    let at-passed = at_Names.before.before.before in
-    let a = at-passed.before.before.before.before.before.before.before.before.before.before.args in
+    let a = c.args in
     let request = request_of (as_field a.f) a.pattern.now a.bindings.now a.slots.now in
-    let y = within_8 _ _ _ _ at-passed.before.refusal.ensures at-passed.if1.false in
+    let y = within_8 _ _ _ _ c.refusal-number.ensures c.if-number-ne0.false in
     let settled = settled_from _ request _ _ _ _ _ _
-    y at_Names.number_names.ensures.0 at_Names.number_names.ensures.1 at-few.if3.false
-    (omega (arith, at_Names.number_names.auto.1.1.1.0, length-replicate {A = ℕ} 256 0))
-    (at-settle.settle.ensures _ y.store (record { low = y.low; fits = y.within })) (ap settled_of at-run.run.given.1) in record {
+    y c.number_names-entries.ensures.0 c.number_names-entries.ensures.1 c.if-entries-gt-NAME_LIMIT.false
+    (omega (arith, c.number_names-entries.auto.numbers, length-replicate {A = ℕ} 256 0))
+    (c.settle.ensures _ y.store (record { low = y.low; fits = y.within })) (ap settled_of c.in-At.is) in record {
       inside = start-inside _ request _ _ _ _ _ settled;
       few = search rules;
       ready = ready_start _ request _ _ _ _ _ settled a.slots.now;
-      open_slots = rw at_cap.slots_in_lem.ensures (slots_start _ request _ _ _ _ _ settled a.slots.now a.head);
+      open_slots = rw c.slots_in-cap.ensures (slots_start _ request _ _ _ _ _ settled a.slots.now a.head);
     }
 
-returns_4 : tie.Need-returns-4
+returns_4 : tie.Need-returns-in-Refused
 unfolding matched_of settled_of
 returns_4 c =
-    let at-settle = c.before.before.before.before.before in
-    let at_Names = at-settle.before.before.before.before.before in
-    let at-passed = at_Names.before.before.before in
-    let y = within_8 _ _ _ _ at-passed.before.refusal.ensures at-passed.if1.false in
-    exit_full _ _ _ at-passed.before.refusal.ensures at-passed.if1.false at_Names.number_names.ensures.0 (search rules) _ _ _ _
-    (at-settle.settle.ensures _ y.store (record { low = y.low; fits = y.within })) (ap settled_of c.before.n.given.1)
+    let y = within_8 _ _ _ _ c.refusal-number.ensures c.if-number-ne0.false in
+    exit_full _ _ _ c.refusal-number.ensures c.if-number-ne0.false c.number_names-entries.ensures.0 (search rules) _ _ _ _
+    (c.settle.ensures _ y.store (record { low = y.low; fits = y.within })) (ap settled_of c.in-Refused.is)
 
-returns_5 : tie.Need-returns-5
+returns_5 : tie.Need-returns-in-At
 unfolding settled_of
 returns_5 c =
-    let at-walk = c.before.before.before in
-    let at_cap = at-walk.before.before.before.before in
-    let at-run = at_cap.before.before in
-    let at-settle = at-run.before.before.before.before in
-    let at-few = at-settle.before.before.before in
-    let at_Names = at-few.before.before in
-    let at-passed = at_Names.before.before.before in
-    let a = at-passed.before.before.before.before.before.before.before.before.before.before.args in
-    let y = within_8 _ _ _ _ at-passed.before.refusal.ensures at-passed.if1.false in
-    exit_done _ _ _ at-passed.before.refusal.ensures at-passed.if1.false _ _ _ _ _
+    let a = c.args in
+    let y = within_8 _ _ _ _ c.refusal-number.ensures c.if-number-ne0.false in
+    exit_done _ _ _ c.refusal-number.ensures c.if-number-ne0.false _ _ _ _ _
     (settled_from _ (request_of (as_field a.f) a.pattern.now a.bindings.now a.slots.now) _ _ _ _ _ _
-    y at_Names.number_names.ensures.0 at_Names.number_names.ensures.1 at-few.if3.false
-    (omega (arith, at_Names.number_names.auto.1.1.1.0, length-replicate {A = ℕ} 256 0))
-    (at-settle.settle.ensures _ y.store (record { low = y.low; fits = y.within })) (ap settled_of at-run.run.given.1))
-    _ refl _ _ at_cap.slots_in_lem.ensures refl at-walk.walk_from.ensures (search rules) c.answer.ensures
+    y c.number_names-entries.ensures.0 c.number_names-entries.ensures.1 c.if-entries-gt-NAME_LIMIT.false
+    (omega (arith, c.number_names-entries.auto.numbers, length-replicate {A = ℕ} 256 0))
+    (c.settle.ensures _ y.store (record { low = y.low; fits = y.within })) (ap settled_of c.in-At.is))
+    _ refl _ _ c.slots_in-cap.ensures refl c.walk_from-tally.ensures (search rules) c.answer.ensures
 
 pub list_spec : {M : Type 1} → statement M
 list_spec =

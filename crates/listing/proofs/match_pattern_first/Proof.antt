@@ -6,7 +6,7 @@ use Rattle.listing.proofs.match_pattern_first.Tie as tie
 
 returns : tie.Need-returns
 unfolding wanted_of
-returns c = c.before.before.before.before.list.ensures
+returns c = c.list.ensures
 
 pub match_pattern_first_spec : {M : Type 1} → statement M
 match_pattern_first_spec = tie.close (tie.spec (λ c κs. search rules) (λ c. search rules) (λ c. search rules) returns)

@@ -8,59 +8,39 @@ use Rattle.listing.specs.RefusalLaws.{refusal_first, refusal_short, refusal_late
 use Rattle.listing.proofs.refusal.Statement.{statement}
 use Rattle.listing.proofs.refusal.Tie as tie
 
-returns : tie.Need-returns
-returns c = refusal_first _ _ _ _ c.before.before.request-even.ensures c.before.check.ensures c.if1.true
+returns : tie.Need-returns-then-number-ne0
+returns c = refusal_first _ _ _ _ c.request_even.ensures c.check-number.ensures c.if-number-ne0.true
 
-returns_2 : tie.Need-returns-2
+returns_2 : tie.Need-returns-then-not-bindings_inside
 unfolding ask numbered
 returns_2 c =
-    let at-check = c.before.before.before in
-    let at-request-even = at-check.before in
-    refusal_later _ _ _ _ at-request-even.request-even.ensures at-check.check.ensures c.before.before.if1.false
-    (sym (not-true _ c.if2.true) ∙ c.before.bindings-inside.ensures) refl refl
+    refusal_later _ _ _ _ c.request_even.ensures c.check-number.ensures c.if-number-ne0.false
+    (sym (not-true _ c.if-not-bindings_inside.true-raw) ∙ c.bindings_inside.ensures) refl refl
 
-pattern_ok_requires : tie.Need-pattern-ok-requires
+pattern_ok_requires : tie.Need-pattern_ok-requires
 pattern_ok_requires c κs =
-    let at-check = c.before.before.before in
-    let at-request-even = at-check.before in
-    refusal_short _ _ _ _ at-request-even.request-even.ensures at-check.check.ensures c.before.before.if1.false
+    refusal_short _ _ _ _ c.request_even.ensures c.check-number.ensures c.if-number-ne0.false
 
-returns_3 : tie.Need-returns-3
+returns_3 : tie.Need-returns-then-not-pattern_ok
 unfolding ask numbered
 returns_3 c =
-    let at-bindings-inside = c.before.before.before in
-    let at-if1 = at-bindings-inside.before in
-    let at-check = at-if1.before in
-    let at-request-even = at-check.before in
-    refusal_later _ _ _ _ at-request-even.request-even.ensures at-check.check.ensures at-if1.if1.false
-    (sym (not-false _ c.before.before.if2.false) ∙ at-bindings-inside.bindings-inside.ensures)
-    (sym (not-true _ c.if3.true) ∙ c.before.pattern_ok.ensures) refl
+    refusal_later _ _ _ _ c.request_even.ensures c.check-number.ensures c.if-number-ne0.false
+    (sym (not-false _ c.if-not-bindings_inside.false-raw) ∙ c.bindings_inside.ensures)
+    (sym (not-true _ c.if-not-pattern_ok.true-raw) ∙ c.pattern_ok.ensures) refl
 
-returns_4 : tie.Need-returns-4
+returns_4 : tie.Need-returns-then-not-bindings_ok
 unfolding ask numbered
 returns_4 c =
-    let at-pattern-ok = c.before.before.before in
-    let at-if2 = at-pattern-ok.before in
-    let at-bindings-inside = at-if2.before in
-    let at-if1 = at-bindings-inside.before in
-    let at-check = at-if1.before in
-    let at-request-even = at-check.before in
-    refusal_later _ _ _ _ at-request-even.request-even.ensures at-check.check.ensures at-if1.if1.false
-    (sym (not-false _ at-if2.if2.false) ∙ at-bindings-inside.bindings-inside.ensures)
-    (sym (not-false _ c.before.before.if3.false) ∙ at-pattern-ok.pattern_ok.ensures) (sym (not-true _ c.if4.true) ∙ c.before.bindings-ok.ensures)
+    refusal_later _ _ _ _ c.request_even.ensures c.check-number.ensures c.if-number-ne0.false
+    (sym (not-false _ c.if-not-bindings_inside.false-raw) ∙ c.bindings_inside.ensures)
+    (sym (not-false _ c.if-not-pattern_ok.false-raw) ∙ c.pattern_ok.ensures) (sym (not-true _ c.if-not-bindings_ok.true-raw) ∙ c.bindings_ok.ensures)
 
-returns_5 : tie.Need-returns-5
+returns_5 : tie.Need-returns
 unfolding ask numbered
 returns_5 c =
-    let at-pattern-ok = c.before.before.before in
-    let at-if2 = at-pattern-ok.before in
-    let at-bindings-inside = at-if2.before in
-    let at-if1 = at-bindings-inside.before in
-    let at-check = at-if1.before in
-    let at-request-even = at-check.before in
-    refusal_later _ _ _ _ at-request-even.request-even.ensures at-check.check.ensures at-if1.if1.false
-    (sym (not-false _ at-if2.if2.false) ∙ at-bindings-inside.bindings-inside.ensures)
-    (sym (not-false _ c.before.before.if3.false) ∙ at-pattern-ok.pattern_ok.ensures) (sym (not-false _ c.if4.false) ∙ c.before.bindings-ok.ensures)
+    refusal_later _ _ _ _ c.request_even.ensures c.check-number.ensures c.if-number-ne0.false
+    (sym (not-false _ c.if-not-bindings_inside.false-raw) ∙ c.bindings_inside.ensures)
+    (sym (not-false _ c.if-not-pattern_ok.false-raw) ∙ c.pattern_ok.ensures) (sym (not-false _ c.if-not-bindings_ok.false-raw) ∙ c.bindings_ok.ensures)
 
 pub refusal_spec : {M : Type 1} → statement M
 refusal_spec =

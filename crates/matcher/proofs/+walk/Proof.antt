@@ -147,28 +147,28 @@ module _ (t : ℕ) where
   returns_4 : walk-lts.Need-returns-in-Stop (R t) (walk_at t) walk.Post invariant_loop decreases_loop
   returns_4 c =
       let at-match = c.before.before in
-      let turn = (turn_of at-match).take-turn.ensures.0 in
+      let turn = (turn_of at-match).take_turn-taken.ensures.0 in
       let e = c.in-Stop.is in (
         record {
           written = written_none _ _ _ (start_of at-match).requires.1.1.most (turn_stop turn e);
           levels-same = stop_same turn e;
           entries_same = turn.entries_same;
         },
-        (turn_of at-match).take-turn.ensures.1,
+        (turn_of at-match).take_turn-taken.ensures.1,
       )
 
   returns_5 : walk-lts.Need-returns-in-Call (R t) (walk_at t) walk.Post invariant_loop decreases_loop
   returns_5 c =
       let at-match = c.before.before in
       let at-record = record_of (turn_of at-match) in
-      let turn = (turn_of at-match).take-turn.ensures.0 in
+      let turn = (turn_of at-match).take_turn-taken.ensures.0 in
       let e = c.in-Call.is in (
         record {
-          written = written_call _ _ _ (start_of at-match).requires.1.1.most (begin at-record).pre.1.1.goes (turn_call turn e);
+          written = written_call _ _ _ (start_of at-match).requires.1.1.most (begin at-record).requires.1.1.goes (turn_call turn e);
           levels-same = call_same turn e;
           entries_same = turn.entries_same;
         },
-        (turn_of at-match).take-turn.ensures.1,
+        (turn_of at-match).take_turn-taken.ensures.1,
       )
 
   -- ---- the walk goes on at the next record ----
@@ -183,11 +183,11 @@ module _ (t : ℕ) where
       let at-start = begin (record_of at_turn) in
       let y = at-start.requires.1.0.0 in
       let kept = at_turn.take_turn-taken.auto in (
-        omega (arith, (record_of at_turn).if1.left, at-start.pre.0),
+        omega (arith, (record_of at_turn).if-pattern-p.false, at-start.requires.0),
         (
           (
             ready_next at_turn.take_turn-taken.ensures.0 y at_told.in-Next.is
-                (omega (arith, y.level-room, kept.levels.1.1.1.1.1.1.0)) (omega (arith, y.entry-room, kept.1.1.1.1.1.1.1.1.0)),
+                (omega (arith, y.level-room, kept.levels)) (omega (arith, y.entry-room, kept.binds)),
             at_turn.take_turn-taken.ensures.1,
           ),
           at-start.requires.1.1,
@@ -206,7 +206,7 @@ module _ (t : ℕ) where
       let at-put = c in
       let at-walk = at-put.before.before.before.before.before.before in
       let at_told = at-walk.before.before.before.before.before in
-      let turn = (turn_of at_told.before.before).take-turn.ensures.0 in
+      let turn = (turn_of at_told.before.before).take_turn-taken.ensures.0 in
       (next_walked turn at_told.in-Next.is at-walk.walk-got.ensures.0 at-put.put_back.ensures, at-walk.walk-got.ensures.1)
 
   -- ---- the loop over the splits ----
@@ -221,7 +221,7 @@ module _ (t : ℕ) where
       let y = (begin (record_of at_turn)).requires.1.0.0 in
       let turn = at_turn.take_turn-taken.ensures.0 in
       let e = at_told.in-Split.is in
-      let known = split_known y turn e _ refl (omega (arith, y.entry-room, at_turn.take_turn-taken.auto.levels.1.1.1.1.1.1.1.0)) in
+      let known = split_known y turn e _ refl (omega (arith, y.entry-room, at_turn.take_turn-taken.auto.binds)) in
       ((record { store = y.store; few = y.few; inside = split_inside y turn e }, known, at_turn.take_turn-taken.ensures.1), (y.pattern, omega arith))
 
   loop_holds : walk-lts.Need-loop-k-init (R t) (walk_at t) walk.Post invariant_loop decreases_loop
@@ -240,7 +240,7 @@ module _ (t : ℕ) where
         c.loop-k-test.true,
         omega (arith, split_inside y turn e, y.few),
         split_bound y turn e,
-        omega (arith, y.entry-room, at_turn.take_turn-taken.auto.levels.1.1.1.1.1.1.1.0, at-loop.loop-k.invariant.0.binds_length),
+        omega (arith, y.entry-room, at_turn.take_turn-taken.auto.binds, at-loop.loop-k.invariant.0.binds_length),
       )
 
   add_walk_2 : walk-lts.Need-overflow_add-p-in-loop-k (R t) (walk_at t) walk.Post invariant_loop decreases_loop
@@ -249,19 +249,19 @@ module _ (t : ℕ) where
   walk_requires_2 : walk-lts.Need-walk-got-requires-in-loop-k (R t) (walk_at t) walk.Post invariant_loop decreases_loop
   walk_requires_2 c κs =
       let at_give = c.before.before.before.before in
-      let at-loop = at_give in
-      let at_turn = turn_of (match_of at-loop.before.before.before) in
+      let at-loop = at_give.before.before.before in
+      let at_turn = turn_of (match_of at-loop) in
       let at-start = begin (record_of at_turn) in
       let y = at-start.requires.1.0.0 in
       let kept = at_turn.take_turn-taken.auto in
       let e = at-loop.in-Split.is in
       let o = at-loop.loop-k.invariant.0 in (
-        omega (arith, (record_of at_turn).if1.left, at-start.pre.0),
+        omega (arith, (record_of at_turn).if-pattern-p.false, at-start.requires.0),
         (
           (
             split_ready y at_turn.take_turn-taken.ensures.0 e o at_give.loop-k-test.true _ at_give.give-given.ensures.0 at_give.give-given.ensures.1
-                (omega (arith, y.level-room, kept.levels.1.1.1.1.1.1.0, ap length o.levels-same))
-                (omega (arith, y.entry-room, kept.1.1.1.1.1.1.1.1.0, o.binds_length, at_give.give-given.auto.1.1.0)),
+                (omega (arith, y.level-room, kept.levels, ap length o.levels-same))
+                (omega (arith, y.entry-room, kept.binds, o.binds_length, at_give.give-given.auto.binds)),
             at-loop.loop-k.invariant.1,
           ),
           split_slots o at-start.requires.1.1,
@@ -272,8 +272,8 @@ module _ (t : ℕ) where
   same_length_2 c =
       let at-walk = c.before.before.before.before.before.before in
       let at-loop = (loop_of at-walk).before in
-      let first = at-loop.next_split-k.auto.known.1.1.1.1.1.1.1.1.0 in
-      omega (arith, at-loop.loop-k.inv.2, first, (turn_of (match_of at-loop)).take-turn.kept.1.1.1.1.1.1.1.1.1.0, at-walk.walk-got-in-loop-k.auto.1.1.1.1.1.1.1.1.1.0)
+      let first = at-loop.next_split-k.auto.known in
+      omega (arith, at-loop.loop-k.invariant.2, first, (turn_of (match_of at-loop)).take_turn-taken.auto.known, at-walk.walk-got-in-loop-k.auto.known)
 
   returns_3 : walk-lts.Need-returns-then-got-ne-GOING (R t) (walk_at t) walk.Post invariant_loop decreases_loop
   returns_3 c =
@@ -301,9 +301,9 @@ module _ (t : ℕ) where
   next_split_requires_2 c κs =
       let at-walk = c.before.before.before.before.before.before.before.before.before in
       let at_give = at-walk.before.before.before.before.before in
-      let in-loop = at_give in
+      let in-loop = at_give.before.before in
       let at-loop = in-loop.before in
-      let at_turn = turn_of (match_of at-loop.before.before) in
+      let at_turn = turn_of (match_of at-loop) in
       let y = (begin (record_of at_turn)).requires.1.0.0 in
       let turn = at_turn.take_turn-taken.ensures.0 in
       let e = at-loop.in-Split.is in
@@ -314,9 +314,9 @@ module _ (t : ℕ) where
           split_known y turn e _ same (omega (
             arith,
             y.entry-room,
-            at_turn.take_turn-taken.auto.levels.1.1.1.1.1.1.1.0,
+            at_turn.take_turn-taken.auto.binds,
             o.binds_length,
-            at_give.give-given.auto.1.1.0,
+            at_give.give-given.auto.binds,
           )),
           at-walk.walk-got-in-loop-k.ensures.1,
         ),
@@ -330,24 +330,24 @@ module _ (t : ℕ) where
 
   loop_again : walk-lts.Need-loop-k-preserved (R t) (walk_at t) walk.Post invariant_loop decreases_loop
   loop_again c =
-      let at-walk = c.before.before.before.before.before.before.before in
+      let at-walk = c.before.before.before.before.before.before.before.before.before.before.before.before in
       let at_give = at-walk.before.before.before.before.before in
       let in-loop = at_give.before.before in
       let at-loop = in-loop.before in
       let e = at-loop.in-Split.is in
-      let at_turn = turn_of (match_of at-loop.before.before.before.before) in (
+      let at_turn = turn_of (match_of at-loop) in (
         splitting_next (begin (record_of at_turn)).requires.1.0.0 at_turn.take_turn-taken.ensures.0 e at-loop.loop-k.invariant.0
             in-loop.loop-k-test.true _ at_give.give-given.ensures.0 at_give.give-given.ensures.1 at-walk.walk-got-in-loop-k.ensures.0 c.if-got-ne-GOING.false
-            (omega (arith, c.next_split-arg-in-loop-k-2-1)) at-walk.walk-got-in-loop-k.auto.levels.1.1.1.1.1.1.1.1.1.1.0 c.next_split-k-in-loop-k.ensures.0,
+            (omega (arith, c.next_split-arg-in-loop-k-2-1)) at-walk.walk-got-in-loop-k.auto.slots c.next_split-k-in-loop-k.ensures.0,
         c.next_split-k-in-loop-k.ensures.1,
-        omega (arith, at-loop.loop-k.invariant.2, at-walk.walk-got-in-loop-k.auto.levels.1.1.1.1.1.1.1.1.0, c.next_split-k-in-loop-k.auto.1.1.1.1.1.1.1.1.1.0),
+        omega (arith, at-loop.loop-k.invariant.2, at-walk.walk-got-in-loop-k.auto.known, c.next_split-k-in-loop-k.auto.known),
       )
 
   same_length_8 : walk-lts.Need-shape_of-known-after-loop-k (R t) (walk_at t) walk.Post invariant_loop decreases_loop
   same_length_8 c =
       let at-loop = c.before in
       let first = at-loop.next_split-k.auto.known in
-      omega (arith, at-loop.loop-k.invariant.2, first, (turn_of (match_of at-loop)).take-turn.kept.1.1.1.1.1.1.1.1.1.0)
+      omega (arith, at-loop.loop-k.invariant.2, first, (turn_of (match_of at-loop)).take_turn-taken.auto.known)
 
   returns_7 : walk-lts.Need-returns-after-loop-k (R t) (walk_at t) walk.Post invariant_loop decreases_loop
   returns_7 c =

@@ -1,7 +1,7 @@
 -- `node_ok` is the rule of the node read: each kind's exit is one law of the rule.
 use borrow.Author.Rules.{rules}
 use mathlib.Core.Path.{ap, ◌∙◌}
-use Rattle.term_spec.specs.WordsLaws.{decode-length}
+use Rattle.term_spec.proofs.WordsLaws.{decode-length}
 use Rattle.view_spec.specs.Node.{node_layout, node_rule}
 use Rattle.nodes.specs.RuleLaws.{node_nil, node-cons, node-concat, node_none}
 use Rattle.nodes.proofs.node_ok.Statement.{statement}

@@ -1,7 +1,7 @@
 -- `read_places`: the tables are lent empty, and `read_with` does the rest.
 use borrow.Author.Rules.{rules}
 use Rattle.term_spec.specs.Term.{limit}
-use Rattle.term_spec.specs.ListLaws.{zeros-at}
+use Rattle.term_spec.proofs.ListLaws.{zeros-at}
 use Rattle.places.proofs.read_places.Statement.{statement}
 use Rattle.places.proofs.read_places.Tie as tie
 

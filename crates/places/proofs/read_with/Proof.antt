@@ -4,7 +4,7 @@ use native.Mathlib.Omega.{arith}
 use Prim.Native.Nat.{ℕ, ◌+◌, ◌*◌, ◌-◌, ◌≤◌, ◌<◌, min}
 use mathlib.Core.Path.{◌≡◌}
 use Rattle.term_spec.specs.Term.{limit}
-use Rattle.term_spec.specs.WordsLaws.{decode-length}
+use Rattle.term_spec.proofs.WordsLaws.{decode-length}
 use Rattle.view_spec.specs.Node.{node_at}
 use Rattle.words.specs.Records.{as_node}
 use Rattle.nodes.specs.NodeStore.{nodes_in, NodeStore, Reaches}

@@ -5,7 +5,7 @@ use mathlib.Core.Path.{refl}
 use Prim.Native.Nat.{ℕ, ◌+◌, ◌-◌, ◌<◌, ◌≤◌}
 use Rattle.term_spec.specs.Words.{Lies}
 use Rattle.term_spec.specs.Term.{term_layout}
-use Rattle.term_spec.specs.WordsLaws.{decode-length}
+use Rattle.term_spec.proofs.WordsLaws.{decode-length}
 use Rattle.words.specs.Records.{as_run}
 use Rattle.nodes.specs.NodeStore.{nodes_in}
 use Rattle.rope.specs.Pieces.{most_fields, rest_of, ToRun}

@@ -3,8 +3,8 @@
 use native.Mathlib.Omega.{arith}
 use borrow.Author.Rules.{rules}
 use Prim.Native.Nat.{ℕ, ◌-◌, ◌≤◌}
-use Rattle.term_spec.specs.TermLaws.{values_length}
-use Rattle.term_spec.specs.WordsLaws.{decode-length}
+use Rattle.term_spec.proofs.TermLaws.{values_length}
+use Rattle.term_spec.proofs.WordsLaws.{decode-length}
 use Rattle.words.specs.Records.{as_run}
 use Rattle.nodes.specs.NodeStore.{nodes_in, AnyStore}
 use Rattle.value.specs.Equal.{values_in, spec_equal_runs}

@@ -2,7 +2,7 @@
 use mathlib.Core.Path.{ap, sym, ◌∙◌}
 use Rattle.calls_spec.specs.Step.{answer_number, slots_of}
 use Rattle.sheet_spec.specs.Job.{written, listing_text}
-use Rattle.sheet_spec.specs.ShownLaws.{refusal_listed}
+use Rattle.sheet_spec.proofs.ShownLaws.{refusal_listed}
 use Rattle.listing.specs.Match.{matched_of}
 use Rattle.sheet_job.specs.JobLaws.{fits_listed}
 use borrow.Author.Rules.{rules}

@@ -6,7 +6,7 @@ use native.Mathlib.Omega.{arith}
 use borrow.Author.Rules.{rules}
 use lib.ListN.{length}
 use Rattle.sheet_spec.specs.Job.{laid_at, entry_lines}
-use Rattle.sheet_spec.specs.LaidLaws.{laid_at_none}
+use Rattle.sheet_spec.proofs.LaidLaws.{laid_at_none}
 use Rattle.sheet_form.specs.Form.{line_bytes}
 use Rattle.sheet_job.specs.JobLaws.{entries_step}
 use Rattle.sheet_job.proofs.write_entries.Statement.{statement}

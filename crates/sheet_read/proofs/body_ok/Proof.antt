@@ -1,7 +1,7 @@
 -- `body_ok` is the rule of the lines after the first one: they lie in the text, since the first line says where it ends.
 use borrow.Author.Tests.{not-true, not-false}
 use native.Mathlib.Omega.{arith}
-use Rattle.sheet_spec.specs.SheetLaws.{head_facts}
+use Rattle.sheet_spec.proofs.SheetLaws.{head_facts}
 use Rattle.sheet_read.specs.SheetLaws.{head_limits, body_terms_stop, body_names_stop, body_pattern_stop, body_runs}
 use Rattle.sheet_read.proofs.body_ok.Statement.{statement}
 use Rattle.sheet_read.proofs.body_ok.Tie as tie

@@ -1,7 +1,7 @@
 -- `read_body` reads the lines of a sheet in form: they lie in the text, since the first line says where it ends.
 use native.Mathlib.Omega.{arith}
 use borrow.Author.Rules.{rules}
-use Rattle.sheet_spec.specs.SheetLaws.{HeadFacts, head_facts, BodyFacts, body_facts}
+use Rattle.sheet_spec.proofs.SheetLaws.{HeadFacts, head_facts, BodyFacts, body_facts}
 use Rattle.sheet_form.specs.Form.{as_counts}
 use Rattle.sheet_read.specs.SheetLaws.{head_limits, all-filled}
 use Rattle.sheet_read.proofs.read_body.Statement.{statement}

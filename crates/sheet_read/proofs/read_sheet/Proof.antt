@@ -2,7 +2,7 @@
 use borrow.Author.Tests.{not-true, not-false}
 use native.Mathlib.Omega.{arith}
 use borrow.Author.Rules.{rules}
-use Rattle.sheet_spec.specs.SheetLaws.{head_facts}
+use Rattle.sheet_spec.proofs.SheetLaws.{head_facts}
 use Rattle.sheet_form.specs.Form.{as_counts}
 use Rattle.sheet_form.specs.FormLaws.{rule-holds}
 use Rattle.sheet_read.specs.Read.{InForm, read_of}

@@ -5,7 +5,7 @@ use native.Mathlib.Omega.{arith}
 use borrow.Author.Rules.{rules}
 use lib.ListN.{length, take, length-set}
 use Rattle.sheet_spec.specs.Job.{laid_at}
-use Rattle.sheet_spec.specs.LaidLaws.{laid_at_none}
+use Rattle.sheet_spec.proofs.LaidLaws.{laid_at_none}
 use Rattle.sheet_write.specs.LineLaws.{bytes-turn, bytes_whole}
 use Rattle.sheet_write.proofs.copy_bytes.Statement.{statement}
 use Rattle.sheet_write.proofs.copy_bytes.Tie as tie

@@ -1,5 +1,5 @@
 -- `set_byte`: one element set is a part of one element.
-use Rattle.sheet_spec.specs.LaidLaws.{laid_at-set}
+use Rattle.sheet_spec.proofs.LaidLaws.{laid_at-set}
 use borrow.Author.Rules.{rules}
 use Rattle.sheet_write.proofs.set_byte.Statement.{statement}
 use Rattle.sheet_write.proofs.set_byte.Tie as tie

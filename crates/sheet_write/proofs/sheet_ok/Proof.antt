@@ -1,7 +1,7 @@
 -- `sheet_ok`: each return rewrites the tests of the rule, in their order.
 use native.Mathlib.Omega.{arith}
 use borrow.Author.Rules.{rules}
-use Rattle.sheet_spec.specs.SheetLaws.{spec_counts_of}
+use Rattle.sheet_spec.proofs.SheetLaws.{spec_counts_of}
 use Rattle.sheet_write.specs.SheetLaws.{terms-uneven, pattern_uneven, runs-uneven, whole-limits}
 use Rattle.sheet_write.proofs.sheet_ok.Statement.{statement}
 use Rattle.sheet_write.proofs.sheet_ok.Tie as tie

@@ -2,7 +2,7 @@
 use native.Mathlib.Omega.{arith}
 use lib.Dec.{T}
 use borrow.Author.Rules.{rules}
-use Rattle.sheet_spec.specs.SheetLaws.{spec_counts_of}
+use Rattle.sheet_spec.proofs.SheetLaws.{spec_counts_of}
 use Rattle.sheet_form.specs.Form.{as_counts, in_limits}
 use Rattle.sheet_write.specs.Write.{sheet_of}
 use Rattle.sheet_write.specs.SheetLaws.{rule-limits, Fitting, fitting, parts-laid}

@@ -6,7 +6,7 @@ use borrow.Author.Rules.{rules}
 use lib.Dec.{T}
 use lib.ListN.{length}
 use Rattle.sheet_spec.specs.Sheet.{Sheet, sheet_text, sheet_rule}
-use Rattle.sheet_spec.specs.SheetLaws.{spec_counts_of}
+use Rattle.sheet_spec.proofs.SheetLaws.{spec_counts_of}
 use Rattle.sheet_form.specs.FormLaws.{rule-holds}
 use Rattle.sheet_write.specs.Write.{written_of, sheet_of}
 use Rattle.sheet_write.specs.SheetLaws.{uneven-refused, rule-limits, text_length, short-refused, sheet-written}

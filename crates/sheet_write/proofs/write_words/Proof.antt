@@ -6,7 +6,7 @@ use borrow.Author.Rules.{rules}
 use lib.ListN.{length, take, drop}
 use Rattle.sheet_spec.specs.Sheet.{columns}
 use Rattle.sheet_spec.specs.Job.{laid_at}
-use Rattle.sheet_spec.specs.LaidLaws.{laid_at_none}
+use Rattle.sheet_spec.proofs.LaidLaws.{laid_at_none}
 use Rattle.sheet_write.specs.LineLaws.{words_turn, words_whole}
 use Rattle.sheet_write.proofs.write_words.Statement.{statement}
 use Rattle.sheet_write.proofs.write_words.Tie as tie

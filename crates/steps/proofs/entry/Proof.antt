@@ -1,7 +1,7 @@
 -- `steps::entry`: run x of the words is entry x.
 use mathlib.Core.Path.{sym, ◌∙◌}
 use Rattle.term_spec.specs.Term.{run_layout}
-use Rattle.term_spec.specs.WordsLaws.{decode-at}
+use Rattle.term_spec.proofs.WordsLaws.{decode-at}
 use borrow.Author.Rules.{rules}
 use Rattle.steps.proofs.entry.Statement.{statement}
 use Rattle.steps.proofs.entry.Tie as tie

@@ -2,7 +2,7 @@
 use mathlib.Core.Path.{refl, ◌∙◌}
 use borrow.Author.Tests.{not-true, not-false}
 use native.Mathlib.Omega.{arith}
-use Rattle.term_spec.specs.WordsLaws.{decode-length}
+use Rattle.term_spec.proofs.WordsLaws.{decode-length}
 use Rattle.steps.specs.State.{turn_as}
 use Rattle.steps.specs.StepLaws.{stopped, passed, gave, entry_in, many_last, many_split, many_long, many_differs, many_equals}
 use Rattle.steps.specs.ArrayLaws.{entries_less}

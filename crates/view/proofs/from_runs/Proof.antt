@@ -2,7 +2,7 @@
 use mathlib.Core.Path.{sym, ◌∙◌}
 use borrow.Author.Rules.{rules}
 use borrow.Author.Tests.{not-true, not-false}
-use Rattle.term_spec.specs.BoolLaws.{true-T}
+use Rattle.term_spec.proofs.BoolLaws.{true-T}
 use Rattle.view.specs.Check.{answer_of}
 use Rattle.view.specs.StepLaws.{runs-refused, runs_past, runs_long, runs_fit, runs-passed, runs_few}
 use Rattle.view.proofs.from_runs.Statement.{statement}

@@ -8,35 +8,30 @@ use Rattle.view_read.specs.CompareLaws.{both_show, equal-refused, equal-uneven, 
 use Rattle.view_read.proofs.equal.Statement.{statement}
 use Rattle.view_read.proofs.equal.Tie as tie
 
-returns : tie.Need-returns
+returns : tie.Need-returns-then-number-ne0
 unfolding verdict_of
-returns c = equal-refused _ _ _ c.before.check.ensures c.if1.true
+returns c = equal-refused _ _ _ c.check-number.ensures c.if-number-ne0.true
 
-returns_2 : tie.Need-returns-2
+returns_2 : tie.Need-returns-then-f-g
 unfolding verdict_of
-returns_2 c = let passed = c.before.before.before in equal-uneven _ _ _ passed.before.check.ensures passed.if1.false (λ q. omega (arith, q))
+returns_2 c = equal-uneven _ _ _ c.check-number.ensures c.if-number-ne0.false (λ q. omega (arith, q))
 
-equal_fronts_requires : tie.Need-equal-fronts-requires
+equal_fronts_requires : tie.Need-equal_fronts-requires
 equal_fronts_requires c κs =
-    let passed = c.before.before.before in
-    let (u, v) = usable_both _ _ _ passed.before.check.ensures passed.if1.false in
+    let (u, v) = usable_both _ _ _ c.check-number.ensures c.if-number-ne0.false in
     ((u.values, u.terms), (_, both_show u v (omega arith)))
 
-returns_3 : tie.Need-returns-3
+returns_3 : tie.Need-returns-then-equal_fronts
 unfolding verdict_of
 returns_3 c =
-    let compared = c.before in
-    let passed = compared.before.before.before.before in
-    let (u, v) = usable_both _ _ _ passed.before.check.ensures passed.if1.false in
-    equal_by _ _ _ passed.before.check.ensures passed.if1.false (search rules) (sym c.if3.true ∙ compared.equal-fronts.ensures _ (both_show u v (omega arith)))
+    let (u, v) = usable_both _ _ _ c.check-number.ensures c.if-number-ne0.false in
+    equal_by _ _ _ c.check-number.ensures c.if-number-ne0.false (search rules) (sym c.if-equal_fronts.true ∙ c.equal_fronts.ensures _ (both_show u v (omega arith)))
 
-returns_4 : tie.Need-returns-4
+returns_4 : tie.Need-returns
 unfolding verdict_of
 returns_4 c =
-    let compared = c.before in
-    let passed = compared.before.before.before.before in
-    let (u, v) = usable_both _ _ _ passed.before.check.ensures passed.if1.false in
-    equal_by _ _ _ passed.before.check.ensures passed.if1.false (search rules) (sym c.if3.false ∙ compared.equal-fronts.ensures _ (both_show u v (omega arith)))
+    let (u, v) = usable_both _ _ _ c.check-number.ensures c.if-number-ne0.false in
+    equal_by _ _ _ c.check-number.ensures c.if-number-ne0.false (search rules) (sym c.if-equal_fronts.false ∙ c.equal_fronts.ensures _ (both_show u v (omega arith)))
 
 pub equal_spec : {M : Type 1} → statement M
 equal_spec =

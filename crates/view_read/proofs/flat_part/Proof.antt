@@ -7,29 +7,29 @@ use Rattle.view_read.specs.FlatLaws.{stored_past, stored_inside, work_past, work
 use Rattle.view_read.proofs.flat_part.Statement.{statement}
 use Rattle.view_read.proofs.flat_part.Tie as tie
 
-returns : tie.Need-returns
+returns : tie.Need-returns-then-all-r
 unfolding flat_of
-returns c = stored_past _ _ _ (ap flat_of c.before.before.before.before.flat.given.1) (omega arith)
+returns c = stored_past _ _ _ (ap flat_of c.in-InStore.is) (omega arith)
 
-returns_2 : tie.Need-returns-2
+returns_2 : tie.Need-returns-then-all-r-2
 unfolding flat_of
-returns_2 c = stored_past _ _ _ (ap flat_of c.before.before.before.before.before.before.before.flat.given.1) (omega arith)
+returns_2 c = stored_past _ _ _ (ap flat_of c.in-InStore.is) (omega arith)
 
-returns_3 : tie.Need-returns-3
+returns_3 : tie.Need-returns-then-work-n
 unfolding flat_of
-returns_3 c = work_past _ _ _ (ap flat_of c.before.before.before.flat2.given.1) c.before.if3.true
+returns_3 c = work_past _ _ _ (ap flat_of c.in-InWork.is) c.if-work-n.true
 
-returns_4 : tie.Need-returns-4
+returns_4 : tie.Need-returns-else-all-r-2
 unfolding flat_of
-returns_4 c = stored_inside _ _ _ (ap flat_of c.before.before.before.before.before.before.before.before.before.flat.given.1) (omega arith)
+returns_4 c = stored_inside _ _ _ (ap flat_of c.in-InStore.is) (omega arith)
 
-returns_5 : tie.Need-returns-5
+returns_5 : tie.Need-returns-else-work-n
 unfolding flat_of
-returns_5 c = work_inside _ _ _ (ap flat_of c.before.before.before.flat2.given.1) c.before.if3.false
+returns_5 c = work_inside _ _ _ (ap flat_of c.in-InWork.is) c.if-work-n.false
 
-returns_6 : tie.Need-returns-6
+returns_6 : tie.Need-returns-in-Refused
 unfolding flat_of
-returns_6 c = refused_none _ _ _ (ap flat_of c.before.enum_told.given.1)
+returns_6 c = refused_none _ _ _ (ap flat_of c.in-Refused.is)
 
 pub flat_part_spec : {M : Type 1} → statement M
 flat_part_spec =

@@ -9,50 +9,38 @@ use Rattle.view_read.specs.PlaceLaws.{below-terms, flatten_refused, flatten_stor
 use Rattle.view_read.proofs.flatten.Statement.{statement}
 use Rattle.view_read.proofs.flatten.Tie as tie
 
-returns : tie.Need-returns
+returns : tie.Need-returns-then-number-ne0
 unfolding whole flat_of
-returns c = flatten_refused _ _ _ c.before.check.ensures c.if1.true
+returns c = flatten_refused _ _ _ c.check-number.ensures c.if-number-ne0.true
 
-place_of_requires : tie.Need-place-of-requires
+place_of_requires : tie.Need-place_of-requires
 unfolding whole
-place_of_requires c κs = let u = usable _ _ _ c.before.check.ensures c.if1.false in omega (arith, u.store.fits, u.low)
+place_of_requires c κs = let u = usable _ _ _ c.check-number.ensures c.if-number-ne0.false in omega (arith, u.store.fits, u.low)
 
-returns_2 : tie.Need-returns-2
+returns_2 : tie.Need-returns-then-work-f
 unfolding whole flat_of spec_place_of
 returns_2 c =
-    let told = c.before.before in
-    let placed = told.before.before in
-    let passed = placed.before in
-    let low = (usable _ _ _ passed.before.check.ensures passed.if1.false).low in
-    flatten_short _ _ _ passed.before.check.ensures passed.if1.false (sym (ap spec_place_of told.enum_told.given.1) ∙ placed.place_of.ensures _ low) c.if2.true
+    let low = (usable _ _ _ c.check-number.ensures c.if-number-ne0.false).low in
+    flatten_short _ _ _ c.check-number.ensures c.if-number-ne0.false (sym (ap spec_place_of c.in-Scattered.is) ∙ c.place_of.ensures _ low) c.if-work-f.true
 
-copy_out_requires : tie.Need-copy-out-requires
+copy_out_requires : tie.Need-copy_out-requires
 unfolding whole
 copy_out_requires c κs =
-    let passed = c.before.before.before.before.before.before in
-    let u = usable _ _ _ passed.before.check.ensures passed.if1.false in
+    let u = usable _ _ _ c.check-number.ensures c.if-number-ne0.false in
     (record { used = _; below = below-terms u; reaches = reaches u }, search rules)
 
-returns_3 : tie.Need-returns-3
+returns_3 : tie.Need-returns-in-Stored
 unfolding whole flat_of spec_place_of
 returns_3 c =
-    let found = c.before in
-    let placed = found.before.before in
-    let passed = placed.before in
-    let low = (usable _ _ _ passed.before.check.ensures passed.if1.false).low in
-    flatten_stored _ _ _ passed.before.check.ensures passed.if1.false (sym (ap spec_place_of found.r.given.1) ∙ placed.place_of.ensures _ low)
+    let low = (usable _ _ _ c.check-number.ensures c.if-number-ne0.false).low in
+    flatten_stored _ _ _ c.check-number.ensures c.if-number-ne0.false (sym (ap spec_place_of c.in-Stored.is) ∙ c.place_of.ensures _ low)
 
-returns_4 : tie.Need-returns-4
+returns_4 : tie.Need-returns-else-work-f
 unfolding whole flat_of spec_place_of
 returns_4 c =
-    let done = c.before.before in
-    let long-enough = done.before.before in
-    let told = long-enough.before.before in
-    let placed = told.before.before in
-    let passed = placed.before in
-    let u = usable _ _ _ passed.before.check.ensures passed.if1.false in
-    flatten_done _ _ _ passed.before.check.ensures passed.if1.false (sym (ap spec_place_of told.enum_told.given.1) ∙ placed.place_of.ensures _ u.low)
-    long-enough.if2.false (done.copy-out.ensures _ (below-terms u) (reaches u))
+    let u = usable _ _ _ c.check-number.ensures c.if-number-ne0.false in
+    flatten_done _ _ _ c.check-number.ensures c.if-number-ne0.false (sym (ap spec_place_of c.in-Scattered.is) ∙ c.place_of.ensures _ u.low)
+    c.if-work-f.false (c.copy_out.ensures _ (below-terms u) (reaches u))
 
 pub flatten_spec : {M : Type 1} → statement M
 flatten_spec =

@@ -6,42 +6,32 @@ use Rattle.view_read.specs.PlaceLaws.{settle_stored, settle_full, settle_done}
 use Rattle.view_read.proofs.settle.Statement.{statement}
 use Rattle.view_read.proofs.settle.Tie as tie
 
-returns : tie.Need-returns
+returns : tie.Need-returns-then-used-f
 unfolding settled_of spec_place_of
 returns c m store reaches =
-    let told = c.before.before in
-    let placed = told.before.before in
-    settle_full _ _ _ _ _ store reaches.low reaches.fits (sym (ap spec_place_of told.enum_told.given.1) ∙ placed.place_of.ensures _ reaches.low) (search rules)
+    settle_full _ _ _ _ _ store reaches.low reaches.fits (sym (ap spec_place_of c.in-Scattered.is) ∙ c.place_of.ensures _ reaches.low) (search rules)
 
-returns_2 : tie.Need-returns-2
+returns_2 : tie.Need-returns-then-terms-used
 unfolding settled_of spec_place_of
 returns_2 c m store reaches =
-    let told = c.before.before.before.before in
-    let placed = told.before.before in
-    settle_full _ _ _ _ _ store reaches.low reaches.fits (sym (ap spec_place_of told.enum_told.given.1) ∙ placed.place_of.ensures _ reaches.low) (search rules)
+    settle_full _ _ _ _ _ store reaches.low reaches.fits (sym (ap spec_place_of c.in-Scattered.is) ∙ c.place_of.ensures _ reaches.low) (search rules)
 
-copy_after_requires : tie.Need-copy-after-requires
+copy_after_requires : tie.Need-copy_after-requires
 copy_after_requires c κs =
-    let placed = c.before.before.before.before.before.before.before in
-    let asked = placed.before.before.before.before.requires in
+    let asked = c.requires in
     (asked.1, (asked.0.1, search rules))
 
-returns_3 : tie.Need-returns-3
+returns_3 : tie.Need-returns-in-Stored
 unfolding settled_of spec_place_of
 returns_3 c m store reaches =
-    let found = c.before in
-    let placed = found.before.before in
-    let asked = placed.before.before.before.before.requires.0 in
-    settle_stored _ _ _ _ _ asked.0 asked.1 (sym (ap spec_place_of found.r.given.1) ∙ placed.place_of.ensures _ reaches.low)
+    let asked = c.requires.0 in
+    settle_stored _ _ _ _ _ asked.0 asked.1 (sym (ap spec_place_of c.in-Stored.is) ∙ c.place_of.ensures _ reaches.low)
 
-returns_4 : tie.Need-returns-4
+returns_4 : tie.Need-returns-else-terms-used
 unfolding settled_of spec_place_of
 returns_4 c m store reaches =
-    let copied = c.before.before.before in
-    let told = copied.before.before.before.before.before.before in
-    let placed = told.before.before in
-    settle_done _ _ _ _ _ store reaches.low reaches.fits (sym (ap spec_place_of told.enum_told.given.1) ∙ placed.place_of.ensures _ reaches.low) (search rules)
-    (copied.copy-after.ensures _ store reaches)
+    settle_done _ _ _ _ _ store reaches.low reaches.fits (sym (ap spec_place_of c.in-Scattered.is) ∙ c.place_of.ensures _ reaches.low) (search rules)
+    (c.copy_after.ensures _ store reaches)
 
 pub settle_spec : {M : Type 1} → statement M
 settle_spec =

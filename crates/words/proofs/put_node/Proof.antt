@@ -1,6 +1,6 @@
 -- `words::put_node`: six words set one by one are the record written.
 use borrow.Author.Rules.{rules}
-use Rattle.view_spec.specs.NodeLaws.{node_lays}
+use Rattle.view_spec.proofs.NodeLaws.{node_lays}
 use Rattle.view_spec.specs.Node.{node_layout}
 use Rattle.words.specs.Records.{as_node}
 use Rattle.words.specs.RecordLaws.{record_written}

@@ -1,6 +1,6 @@
 -- `words::put_term`: five words set one by one are the record written.
 use borrow.Author.Rules.{rules}
-use Rattle.term_spec.specs.WordsLaws.{term_lays}
+use Rattle.term_spec.proofs.WordsLaws.{term_lays}
 use Rattle.term_spec.specs.Term.{term_layout}
 use Rattle.words.specs.Records.{as_term}
 use Rattle.words.specs.RecordLaws.{record_written}

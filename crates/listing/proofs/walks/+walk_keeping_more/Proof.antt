@@ -25,27 +25,23 @@ below t = and 6 kinds.ps (falls 6 kinds.ps ◌<◌ μ t) self.Pre
 abbrev R : ℕ → lts.Claims
 R t = (walk-with-reads.Asked, walk-with-reads.Learnt, below t, self.Post)
 
-walk_with_requires : (t : ℕ) → lts.Need-walk-with-requires (R t) (at t) self.Post
-walk_with_requires t c κs = (c.before.before.before.before.before.before.before.before.requires.1, memory_none _ _ _ 4096)
+walk_with_requires : (t : ℕ) → lts.Need-walk_with-tally-requires (R t) (at t) self.Post
+walk_with_requires t c κs = (c.requires.1, memory_none _ _ _ 4096)
 
 -- it never calls itself: the run is among the used terms
-no_call : (t : ℕ) → lts.Need-walk-keeping-more-requires (R t) (at t) self.Post
+no_call : (t : ℕ) → lts.Need-walk_keeping_more-requires (R t) (at t) self.Post
 no_call t c κs =
-    let at-if1 = c.before in
-    let at-start = at-if1.before.before.before.before.before.before.before.before.before.before.before.before.before.before in
-    absurd (omega (arith, at-start.requires.1.inside, at-if1.if1.true))
+    absurd (omega (arith, c.requires.1.inside, c.if-used-run.true))
 
-no_return : (t : ℕ) → lts.Need-returns (R t) (at t) self.Post
+no_return : (t : ℕ) → lts.Need-returns-then-used-run (R t) (at t) self.Post
 no_return t c =
-    let at-if1 = c.before.before.before.before in
-    let at-start = at-if1.before.before.before.before.before.before.before.before.before.before.before.before.before.before in
-    absurd (omega (arith, at-start.requires.1.inside, at-if1.if1.true))
+    absurd (omega (arith, c.requires.1.inside, c.if-used-run.true))
 
-returns_2 : (t : ℕ) → lts.Need-returns-2 (R t) (at t) self.Post
-returns_2 t c = c.before.before.before.before.before.walk-with.ensures
+returns_2 : (t : ℕ) → lts.Need-returns (R t) (at t) self.Post
+returns_2 t c = c.walk_with-tally.ensures
 
-pub +walk-keeping-more-spec : {M : Type 1} → statement M
-+walk-keeping-more-spec = close μ λ t. lts.spec (R t)
+pub +walk_keeping_more_spec : {M : Type 1} → statement M
++walk_keeping_more_spec = close μ λ t. lts.spec (R t)
     (at t)
     self.Post
     (λ c. search rules)

@@ -4,7 +4,7 @@ use Rattle.equality.specs.MemoryLaws.{memory_none}
 use Rattle.listing.proofs.walks.walk_keeping_few.Statement.{statement}
 use Rattle.listing.proofs.walks.walk_keeping_few.Tie as tie
 
-walk_with_requires : tie.Need-walk-with-requires
+walk_with_requires : tie.Need-walk_with-requires
 walk_with_requires c κs = (search rules, memory_none _ _ _ 256)
 
 pub walk_keeping_few_spec : {M : Type 1} → statement M

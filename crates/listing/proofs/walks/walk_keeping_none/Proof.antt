@@ -4,7 +4,7 @@ use Rattle.equality.specs.MemoryLaws.{memory_none}
 use Rattle.listing.proofs.walks.walk_keeping_none.Statement.{statement}
 use Rattle.listing.proofs.walks.walk_keeping_none.Tie as tie
 
-walk_with_requires : tie.Need-walk-with-requires
+walk_with_requires : tie.Need-walk_with-requires
 walk_with_requires c κs = (search rules, memory_none _ _ _ 1)
 
 pub walk_keeping_none_spec : {M : Type 1} → statement M

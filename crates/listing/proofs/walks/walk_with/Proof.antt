@@ -17,29 +17,25 @@ place start len words binds = record { start = start; len = len; depth = 0; boun
 
 walk_requires : tie.Need-walk-requires
 walk_requires c κs =
-    let at-copied = c.before.before.before.before.before in
-    let at-start = at-copied.before.before.before.before.before.before.before.before.before in
-    let asked = at-start.requires.0 in
-    let a = at-start.args in
-    let st = place a.run.start a.run.len (length a.bindings.now) at-copied.start.new.1.0 in (
+    let asked = c.requires.0 in
+    let a = c.args in
+    let st = place a.run.start a.run.len (length a.bindings.now) c.start.new.binds in (
       (
-        asked.ready st (start-levels st refl) (start_entries a.bindings.now st refl at-copied.start.ensures) (omega (arith, length-replicate {A = ℕ} 66 0))
-            (omega (arith, at-copied.start.auto.1.0, length-replicate {A = ℕ} 128 0)),
-        at-start.requires.1,
+        asked.ready st (start-levels st refl) (start_entries a.bindings.now st refl c.start.ensures) (omega (arith, length-replicate {A = ℕ} 66 0))
+            (omega (arith, c.start.auto.binds, length-replicate {A = ℕ} 128 0)),
+        c.requires.1,
       ),
       asked.open_slots,
     )
 
 returns : tie.Need-returns
 returns c =
-    let at-walk = c.before.before.before.before in
-    let at-copied = at-walk.before.before.before.before.before.before in
-    let a = at-copied.before.before.before.before.before.before.before.before.before.args in
-    let st = place a.run.start a.run.len (length a.bindings.now) at-copied.start.new.1.0 in
-    written_same (start_events _ st (start-levels st refl) (start_entries a.bindings.now st refl at-copied.start.ensures)) at-walk.walk.ensures.0.written
+    let a = c.args in
+    let st = place a.run.start a.run.len (length a.bindings.now) c.start.new.binds in
+    written_same (start_events _ st (start-levels st refl) (start_entries a.bindings.now st refl c.start.ensures)) c.walk.ensures.0.written
 
 start_requires : tie.Need-start-requires
-start_requires c κs = (c.before.before.before.before.before.before.before.before.requires.0.few, search rules)
+start_requires c κs = (c.requires.0.few, search rules)
 
 pub walk_with_spec : {M : Type 1} → statement M
 walk_with_spec =

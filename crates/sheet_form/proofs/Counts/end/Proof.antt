@@ -1,7 +1,7 @@
 -- `Counts::end`: within the limits no sum overflows.
 use native.Mathlib.Omega.{arith}
 use borrow.Author.Rules.{rules}
-use Rattle.sheet_spec.specs.SheetLaws.{limits_facts}
+use Rattle.sheet_spec.proofs.SheetLaws.{limits_facts}
 use Rattle.sheet_form.proofs.Counts.end.Statement.{statement}
 use Rattle.sheet_form.proofs.Counts.end.Tie as tie
 

@@ -1,0 +1,10 @@
+pub mod Rows
+pub mod Examples
+pub mod StoreLaws
+pub mod StepLaws
+pub mod SlotLaws
+pub mod ListingLaws
+pub mod Demand3Laws
+pub mod Demand3Example
+pub mod FlattenLaws
+pub mod LengthLaws

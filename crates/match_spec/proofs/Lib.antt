@@ -1,0 +1,15 @@
+pub mod SoundLaws
+pub mod CompleteLaws
+pub mod OrderLaws
+pub mod WalkLaws
+pub mod NameLaws
+pub mod ConsistentLaws
+pub mod KeepLaws
+pub mod RunLaws
+pub mod AnswerLaws
+pub mod MatchLaws
+pub mod RustSplitsLaws
+pub mod RustSplitsExamples
+pub mod PatternExamples
+pub mod WalkExamples
+pub mod PatternLaws

@@ -1,0 +1,9 @@
+pub mod BoolLaws
+pub mod ListLaws
+pub mod TableLaws
+pub mod ValueLaws
+pub mod CommonLaws
+pub mod WordsLaws
+pub mod TermLaws
+pub mod TextExamples
+pub mod TermExamples

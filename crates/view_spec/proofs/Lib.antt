@@ -1,0 +1,11 @@
+pub mod NodeLaws
+pub mod ChainLaws
+pub mod PlanLaws
+pub mod JoinLaws
+pub mod DropLaws
+pub mod FieldLaws
+pub mod ReadLaws
+pub mod RustJoinLaws
+pub mod SettleLaws
+pub mod RustDropLaws
+pub mod ViewExamples
