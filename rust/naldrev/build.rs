@@ -22,10 +22,17 @@ fn repository() -> Option<PathBuf> {
     Path::new(&here).ancestors().find(stands).map(Path::to_path_buf)
 }
 
+/// What the library is made of: crates.txt and the sources of each crate. Beside them rt keeps its own work, which changes with every check.
+fn sources(root: &Path) -> Vec<PathBuf> {
+    let crates = std::fs::read_dir(root.join("crates")).into_iter().flatten().flatten();
+    let parts = crates.flat_map(|it| ["src", "specs", "proofs"].map(|part| it.path().join(part)));
+    parts.filter(|it| it.is_dir()).chain([root.join("crates.txt")]).collect()
+}
+
 /// Has tools/build look whether the library is there and newer than its sources, and make it where it is not.
 fn made(root: &Path) -> PathBuf {
-    for source in ["crates", "crates.txt"] {
-        println!("cargo:rerun-if-changed={}", root.join(source).display());
+    for source in sources(root) {
+        println!("cargo:rerun-if-changed={}", source.display());
     }
     match Command::new(root.join("tools/build")).arg("library").output() {
         Ok(output) if output.status.success() => {}
