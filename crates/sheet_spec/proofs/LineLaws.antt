@@ -22,22 +22,22 @@ unfolding line
 line-length l = rw length-append (omega (arith, columns-length l))
 
 -- The line of a record's kept words and its zeros.
-record_length : (kept zeros : ℕ) (w : List ℕ) → kept ≤ length w → length (line (take kept w ++ replicate zeros 0)) ≡ line_width kept zeros
-record_length kept zeros w h =
-    line-length (take kept w ++ replicate zeros 0) ∙ omega (
+record_length : (kept fill : ℕ) (w : List ℕ) → kept ≤ length w → length (line (take kept w ++ replicate fill 0)) ≡ line_width kept fill
+record_length kept fill w h =
+    line-length (take kept w ++ replicate fill 0) ∙ omega (
       arith,
       length-append (take kept w)
-          (replicate zeros 0),
+          (replicate fill 0),
       length-take-le kept w h,
-      length-replicate {A = ℕ} zeros 0,
+      length-replicate {A = ℕ} fill 0,
     )
 
 -- So many lines of records that lie in the words.
-pub lines-length : (kept zeros n : ℕ) (w : List ℕ) → n * kept ≤ length w → length (lines kept zeros n w) ≡ line_width kept zeros * n
+pub lines-length : (kept fill n : ℕ) (w : List ℕ) → n * kept ≤ length w → length (lines kept fill n w) ≡ line_width kept fill * n
 unfolding lines
-lines-length kept zeros zero w h = omega arith
-lines-length kept zeros (suc n) w h =
-    rw length-append (omega (arith, record_length kept zeros w (omega arith), lines-length kept zeros n (drop kept w) (omega (arith, length-drop kept w))))
+lines-length kept fill zero w h = omega arith
+lines-length kept fill (suc n) w h =
+    rw length-append (omega (arith, record_length kept fill w (omega arith), lines-length kept fill n (drop kept w) (omega (arith, length-drop kept w))))
 
 -- So many numbers are read as asked for.
 pub numbers_length : (text : List ℕ) (p k : ℕ) → length (numbers_at text p k) ≡ k
@@ -46,11 +46,11 @@ numbers_length text p zero = refl
 numbers_length text p (suc k) = ap suc (numbers_length text (p + 10) k)
 
 -- The words of n lines, `kept` of each.
-pub words_length : (text : List ℕ) (p kept zeros n : ℕ) → length (words_at text p kept zeros n) ≡ n * kept
+pub words_length : (text : List ℕ) (p kept fill n : ℕ) → length (words_at text p kept fill n) ≡ n * kept
 unfolding words_at
-words_length text p kept zeros zero = omega arith
-words_length text p kept zeros (suc n) =
-    rw length-append (omega (arith, numbers_length text p kept, words_length text (p + line_width kept zeros) kept zeros n))
+words_length text p kept fill zero = omega arith
+words_length text p kept fill (suc n) =
+    rw length-append (omega (arith, numbers_length text p kept, words_length text (p + line_width kept fill) kept fill n))
 
 -- ---- parts of a text ----
 
@@ -178,98 +178,98 @@ below_at (v ∷ l) (suc i) h = below_at l i (both_of (ltb v beyond) (words_below
 -- ---- one line ----
 
 -- A line that was written is in form, and its numbers read back.
-pub line_read : (text l : List ℕ) (p kept zeros : ℕ) → length l ≡ kept → T (words_below l)
-    → take (line_width kept zeros) (drop p text) ≡ line (l ++ replicate zeros 0)
-    → (numbers_at text p kept ≡ l) × T (spec_line_ok text p kept zeros)
+pub line_read : (text l : List ℕ) (p kept fill : ℕ) → length l ≡ kept → T (words_below l)
+    → take (line_width kept fill) (drop p text) ≡ line (l ++ replicate fill 0)
+    → (numbers_at text p kept ≡ l) × T (spec_line_ok text p kept fill)
 unfolding line spec_line_ok
-line_read text l p kept zeros h b e =
-    let o : List ℕ = replicate zeros 0 in
-    let w : length (columns (l ++ o)) ≡ 10 * (kept + zeros) = columns-length (l ++ o) ∙ omega (arith, length-append l o, length-replicate {A = ℕ} zeros 0) in
-    let all = parts-left text (columns (l ++ o)) (10 ∷ []) p (10 * (kept + zeros)) 1 w e in
-    let end = part-byte text (p + 10 * (kept + zeros)) 10 (parts-right text (columns (l ++ o)) (10 ∷ []) p (10 * (kept + zeros)) 1 w e) in
-    let z : 10 * (kept + zeros) ≡ 10 * kept + 10 * zeros = omega arith in
-    let s : take (10 * kept + 10 * zeros) (drop p text) ≡ columns l ++ columns o = ap (λ n. take n (drop p text)) (sym z) ∙ all ∙ columns-append l o in
+line_read text l p kept fill h b e =
+    let o : List ℕ = replicate fill 0 in
+    let w : length (columns (l ++ o)) ≡ 10 * (kept + fill) = columns-length (l ++ o) ∙ omega (arith, length-append l o, length-replicate {A = ℕ} fill 0) in
+    let all = parts-left text (columns (l ++ o)) (10 ∷ []) p (10 * (kept + fill)) 1 w e in
+    let end = part-byte text (p + 10 * (kept + fill)) 10 (parts-right text (columns (l ++ o)) (10 ∷ []) p (10 * (kept + fill)) 1 w e) in
+    let z : 10 * (kept + fill) ≡ 10 * kept + 10 * fill = omega arith in
+    let s : take (10 * kept + 10 * fill) (drop p text) ≡ columns l ++ columns o = ap (λ n. take n (drop p text)) (sym z) ∙ all ∙ columns-append l o in
     let k : length (columns l) ≡ 10 * kept = columns-length l ∙ ap (10 *◌) h in
-    let (m, x) = numbers_read text l p kept h b (parts-left text (columns l) (columns o) p (10 * kept) (10 * zeros) k s) in
-    let (q, y) = numbers_read text o (p + 10 * kept) zeros (length-replicate zeros 0) (zeros-below zeros)
-    (parts-right text (columns l) (columns o) p (10 * kept) (10 * zeros) k s) in (
+    let (m, x) = numbers_read text l p kept h b (parts-left text (columns l) (columns o) p (10 * kept) (10 * fill) k s) in
+    let (q, y) = numbers_read text o (p + 10 * kept) fill (length-replicate fill 0) (zeros-below fill)
+    (parts-right text (columns l) (columns o) p (10 * kept) (10 * fill) k s) in (
       m,
-      and_of (numbers_ok text p kept && zeros_ok text (p + 10 * kept) zeros) (eqb (get_or text (p + 10 * (kept + zeros)) 0) 10)
-          (and_of (numbers_ok text p kept) (zeros_ok text (p + 10 * kept) zeros) x (numbers_zeros text (p + 10 * kept) zeros q)) (eq→eqb _ _ end),
+      and_of (numbers_ok text p kept && zeros_ok text (p + 10 * kept) fill) (eqb (get_or text (p + 10 * (kept + fill)) 0) 10)
+          (and_of (numbers_ok text p kept) (zeros_ok text (p + 10 * kept) fill) x (numbers_zeros text (p + 10 * kept) fill q)) (eq→eqb _ _ end),
     )
 
 -- What makes a line: its numbers, its zeros, its newline.
-pub record LineFacts (text : List ℕ) (p kept zeros : ℕ) : Type 0 where
+pub record LineFacts (text : List ℕ) (p kept fill : ℕ) : Type 0 where
   pub numbers : T (numbers_ok text p kept)
-  pub zeroes : T (zeros_ok text (p + 10 * kept) zeros)
-  pub newline : get_or text (p + 10 * (kept + zeros)) 0 ≡ 10
+  pub zeroes : T (zeros_ok text (p + 10 * kept) fill)
+  pub newline : get_or text (p + 10 * (kept + fill)) 0 ≡ 10
 
 -- They follow from the test.
-pub line_facts : (text : List ℕ) (p kept zeros : ℕ) → T (spec_line_ok text p kept zeros) → LineFacts text p kept zeros
+pub line_facts : (text : List ℕ) (p kept fill : ℕ) → T (spec_line_ok text p kept fill) → LineFacts text p kept fill
 unfolding spec_line_ok
-line_facts text p kept zeros h =
-    let (x, n) = both_of (numbers_ok text p kept && zeros_ok text (p + 10 * kept) zeros) (eqb (get_or text (p + 10 * (kept + zeros)) 0) 10) h in
-    let (k, z) = both_of (numbers_ok text p kept) (zeros_ok text (p + 10 * kept) zeros) x in
+line_facts text p kept fill h =
+    let (x, n) = both_of (numbers_ok text p kept && zeros_ok text (p + 10 * kept) fill) (eqb (get_or text (p + 10 * (kept + fill)) 0) 10) h in
+    let (k, z) = both_of (numbers_ok text p kept) (zeros_ok text (p + 10 * kept) fill) x in
     record { numbers = k; zeroes = z; newline = eqb→eq _ _ n }
 
 -- A line in form is the line of its numbers.
-pub read_line : (text : List ℕ) (p kept zeros : ℕ) → p + line_width kept zeros ≤ length text → T (spec_line_ok text p kept zeros)
-    → take (line_width kept zeros) (drop p text) ≡ line (numbers_at text p kept ++ replicate zeros 0)
+pub read_line : (text : List ℕ) (p kept fill : ℕ) → p + line_width kept fill ≤ length text → T (spec_line_ok text p kept fill)
+    → take (line_width kept fill) (drop p text) ≡ line (numbers_at text p kept ++ replicate fill 0)
 unfolding line
-read_line text p kept zeros h o =
-    let f = line_facts text p kept zeros o in
-    let (q, y) = zeros_numbers text (p + 10 * kept) zeros f.zeroes in
+read_line text p kept fill h o =
+    let f = line_facts text p kept fill o in
+    let (q, y) = zeros_numbers text (p + 10 * kept) fill f.zeroes in
     let a = read_numbers text p kept (omega arith) f.numbers in
-    let b = read_numbers text (p + 10 * kept) zeros (omega arith) y ∙ ap columns q in
-    let z : 10 * (kept + zeros) ≡ 10 * kept + 10 * zeros = omega arith in
-    let s = ap (λ n. take n (drop p text)) z ∙ parts_join text (columns (numbers_at text p kept)) (columns (replicate zeros 0)) p (10 * kept) (10 * zeros) a b
-    ∙ sym (columns-append (numbers_at text p kept) (replicate zeros 0)) in
-    parts_join text (columns (numbers_at text p kept ++ replicate zeros 0)) (10 ∷ []) p (10 * (kept + zeros)) 1 s
-    (byte-part text (p + 10 * (kept + zeros)) (omega arith) ∙ ap (λ x. x ∷ []) f.newline)
+    let b = read_numbers text (p + 10 * kept) fill (omega arith) y ∙ ap columns q in
+    let z : 10 * (kept + fill) ≡ 10 * kept + 10 * fill = omega arith in
+    let s = ap (λ n. take n (drop p text)) z ∙ parts_join text (columns (numbers_at text p kept)) (columns (replicate fill 0)) p (10 * kept) (10 * fill) a b
+    ∙ sym (columns-append (numbers_at text p kept) (replicate fill 0)) in
+    parts_join text (columns (numbers_at text p kept ++ replicate fill 0)) (10 ∷ []) p (10 * (kept + fill)) 1 s
+    (byte-part text (p + 10 * (kept + fill)) (omega arith) ∙ ap (λ x. x ∷ []) f.newline)
 
 -- ---- lines ----
 
 -- Lines that were written are in form, and their words read back.
-pub lines_read : (text : List ℕ) (p kept zeros n : ℕ) (w : List ℕ) → n * kept ≤ length w → T (words_below w)
-    → take (line_width kept zeros * n) (drop p text) ≡ lines kept zeros n w → (words_at text p kept zeros n ≡ take (n * kept) w) × T (spec_lines_ok text p kept zeros n)
+pub lines_read : (text : List ℕ) (p kept fill n : ℕ) (w : List ℕ) → n * kept ≤ length w → T (words_below w)
+    → take (line_width kept fill * n) (drop p text) ≡ lines kept fill n w → (words_at text p kept fill n ≡ take (n * kept) w) × T (spec_lines_ok text p kept fill n)
 unfolding lines words_at spec_lines_ok
-lines_read text p kept zeros zero w h b e = let z : zero * kept ≡ zero = omega arith in (rw z refl, tt)
-lines_read text p kept zeros (suc n) w h b e =
-    let one = line (take kept w ++ replicate zeros 0) in
-    let rest = lines kept zeros n (drop kept w) in
-    let W : ℕ = line_width kept zeros in
+lines_read text p kept fill zero w h b e = let z : zero * kept ≡ zero = omega arith in (rw z refl, tt)
+lines_read text p kept fill (suc n) w h b e =
+    let one = line (take kept w ++ replicate fill 0) in
+    let rest = lines kept fill n (drop kept w) in
+    let W : ℕ = line_width kept fill in
     let z : W * suc n ≡ W + W * n = omega arith in
     let s : take (W + W * n) (drop p text) ≡ one ++ rest = ap (λ m. take m (drop p text)) (sym z) ∙ e in
-    let k : length one ≡ W = record_length kept zeros w (omega arith) in
-    let (m, x) = line_read text (take kept w) p kept zeros (length-take-le kept w (omega arith)) (below-take kept w b)
+    let k : length one ≡ W = record_length kept fill w (omega arith) in
+    let (m, x) = line_read text (take kept w) p kept fill (length-take-le kept w (omega arith)) (below-take kept w b)
     (parts-left text one rest p W (W * n) k s) in
-    let (q, y) = lines_read text (p + W) kept zeros n (drop kept w) (omega (arith, length-drop kept w)) (below-drop kept w b)
+    let (q, y) = lines_read text (p + W) kept fill n (drop kept w) (omega (arith, length-drop kept w)) (below-drop kept w b)
     (parts-right text one rest p W (W * n) k s) in
     let v : suc n * kept ≡ kept + n * kept = omega arith in
-    (ap₂ ◌++◌ m q ∙ sym (take-add kept (n * kept) w) ∙ ap (λ i. take i w) (sym v), and_of (spec_line_ok text p kept zeros) (spec_lines_ok text (p + W) kept zeros n) x y)
+    (ap₂ ◌++◌ m q ∙ sym (take-add kept (n * kept) w) ∙ ap (λ i. take i w) (sym v), and_of (spec_line_ok text p kept fill) (spec_lines_ok text (p + W) kept fill n) x y)
 
 -- Lines in form are the lines of their words.
-pub read_lines : (text : List ℕ) (p kept zeros n : ℕ) → p + line_width kept zeros * n ≤ length text → T (spec_lines_ok text p kept zeros n)
-    → take (line_width kept zeros * n) (drop p text) ≡ lines kept zeros n (words_at text p kept zeros n)
+pub read_lines : (text : List ℕ) (p kept fill n : ℕ) → p + line_width kept fill * n ≤ length text → T (spec_lines_ok text p kept fill n)
+    → take (line_width kept fill * n) (drop p text) ≡ lines kept fill n (words_at text p kept fill n)
 unfolding lines words_at spec_lines_ok
-read_lines text p kept zeros zero h o = let z : line_width kept zeros * zero ≡ zero = omega arith in rw z refl
-read_lines text p kept zeros (suc n) h o =
-    let W : ℕ = line_width kept zeros in
-    let (x, y) = both_of (spec_line_ok text p kept zeros) (spec_lines_ok text (p + W) kept zeros n) o in
+read_lines text p kept fill zero h o = let z : line_width kept fill * zero ≡ zero = omega arith in rw z refl
+read_lines text p kept fill (suc n) h o =
+    let W : ℕ = line_width kept fill in
+    let (x, y) = both_of (spec_line_ok text p kept fill) (spec_lines_ok text (p + W) kept fill n) o in
     let one = numbers_at text p kept in
-    let rest = words_at text (p + W) kept zeros n in
+    let rest = words_at text (p + W) kept fill n in
     let z : W * suc n ≡ W + W * n = omega arith in
     let k = numbers_length text p kept in
     ap (λ m. take m (drop p text)) z
-    ∙ parts_join text (line (one ++ replicate zeros 0)) (lines kept zeros n rest) p W (W * n)
-    (read_line text p kept zeros (omega arith) x) (read_lines text (p + W) kept zeros n (omega arith) y)
-    ∙ ap₂ (λ l m. line (l ++ replicate zeros 0) ++ lines kept zeros n m) (sym (take_at one rest kept k)) (sym (drop_at one rest kept k))
+    ∙ parts_join text (line (one ++ replicate fill 0)) (lines kept fill n rest) p W (W * n)
+    (read_line text p kept fill (omega arith) x) (read_lines text (p + W) kept fill n (omega arith) y)
+    ∙ ap₂ (λ l m. line (l ++ replicate fill 0) ++ lines kept fill n m) (sym (take_at one rest kept k)) (sym (drop_at one rest kept k))
 
 -- The words of lines in form are below the limit.
-pub words_below_lem : (text : List ℕ) (p kept zeros n : ℕ) → T (spec_lines_ok text p kept zeros n) → T (words_below (words_at text p kept zeros n))
+pub words_below_lem : (text : List ℕ) (p kept fill n : ℕ) → T (spec_lines_ok text p kept fill n) → T (words_below (words_at text p kept fill n))
 unfolding words_at spec_lines_ok words_below
-words_below_lem text p kept zeros zero h = tt
-words_below_lem text p kept zeros (suc n) h =
-    let (x, y) = both_of (spec_line_ok text p kept zeros) (spec_lines_ok text (p + line_width kept zeros) kept zeros n) h in
-    below-append (numbers_at text p kept) (words_at text (p + line_width kept zeros) kept zeros n)
-    (numbers_below_lem text p kept (line_facts text p kept zeros x).numbers) (words_below_lem text (p + line_width kept zeros) kept zeros n y)
+words_below_lem text p kept fill zero h = tt
+words_below_lem text p kept fill (suc n) h =
+    let (x, y) = both_of (spec_line_ok text p kept fill) (spec_lines_ok text (p + line_width kept fill) kept fill n) h in
+    below-append (numbers_at text p kept) (words_at text (p + line_width kept fill) kept fill n)
+    (numbers_below_lem text p kept (line_facts text p kept fill x).numbers) (words_below_lem text (p + line_width kept fill) kept fill n y)

@@ -186,10 +186,10 @@ pub sheet-length : (s : Sheet) → T (sheet_rule s) → length (sheet_text s) �
 sheet-length s h = (parts-written s h).size
 
 -- Lines of all of the words.
-all_read : (text : List ℕ) (p kept zeros n : ℕ) (w : List ℕ) → length w ≡ n * kept → T (words_below w)
-    → take (line_width kept zeros * n) (drop p text) ≡ lines kept zeros n w → (words_at text p kept zeros n ≡ w) × T (spec_lines_ok text p kept zeros n)
-all_read text p kept zeros n w h b e =
-    let (x, y) = lines_read text p kept zeros n w (omega arith) b e in
+all_read : (text : List ℕ) (p kept fill n : ℕ) (w : List ℕ) → length w ≡ n * kept → T (words_below w)
+    → take (line_width kept fill * n) (drop p text) ≡ lines kept fill n w → (words_at text p kept fill n ≡ w) × T (spec_lines_ok text p kept fill n)
+all_read text p kept fill n w h b e =
+    let (x, y) = lines_read text p kept fill n w (omega arith) b e in
     (x ∙ take_all (n * kept) w (omega arith), y)
 
 below_head : (c : Counts) → Limited c.terms c.names c.pattern c.runs → T (words_below (head_numbers c))

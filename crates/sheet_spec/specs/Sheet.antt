@@ -34,7 +34,7 @@ run_zeros = 2
 
 -- The bytes of a line: its columns and its newline.
 abbrev pub line_width : ℕ → ℕ → ℕ
-line_width kept zeros = column_width * (kept + zeros) + 1
+line_width kept fill = column_width * (kept + fill) + 1
 
 -- The counts that the first line shows.
 pub record Counts : Type 0 where
@@ -85,8 +85,8 @@ line l = columns l ++ 10 ∷ []
 
 -- The lines of n records: `kept` words of each, then so many zeros.
 unfoldable pub lines : ℕ → ℕ → ℕ → List ℕ → List ℕ
-lines kept zeros zero w = []
-lines kept zeros (suc n) w = line (take kept w ++ replicate zeros 0) ++ lines kept zeros n (drop kept w)
+lines kept fill zero w = []
+lines kept fill (suc n) w = line (take kept w ++ replicate fill 0) ++ lines kept fill n (drop kept w)
 
 -- What a sheet holds: words of terms, name bytes, words of pattern records, words of runs.
 pub record Sheet : Type 0 where
@@ -182,12 +182,12 @@ zeros_ok text p (suc k) = eqb (number_at text p) 0 && zeros_ok text (p + column_
 
 -- A line at p: its numbers, its zeros, its newline.
 unfoldable pub spec_line_ok : List ℕ → ℕ → ℕ → ℕ → Bool
-spec_line_ok text p kept zeros = numbers_ok text p kept && zeros_ok text (p + column_width * kept) zeros && eqb (get_or text (p + column_width * (kept + zeros)) 0) 10
+spec_line_ok text p kept fill = numbers_ok text p kept && zeros_ok text (p + column_width * kept) fill && eqb (get_or text (p + column_width * (kept + fill)) 0) 10
 
 -- n such lines.
 unfoldable pub spec_lines_ok : List ℕ → ℕ → ℕ → ℕ → ℕ → Bool
-spec_lines_ok text p kept zeros zero = true
-spec_lines_ok text p kept zeros (suc n) = spec_line_ok text p kept zeros && spec_lines_ok text (p + line_width kept zeros) kept zeros n
+spec_lines_ok text p kept fill zero = true
+spec_lines_ok text p kept fill (suc n) = spec_line_ok text p kept fill && spec_lines_ok text (p + line_width kept fill) kept fill n
 
 -- So many numbers from p on.
 unfoldable pub numbers_at : List ℕ → ℕ → ℕ → List ℕ
@@ -196,8 +196,8 @@ numbers_at text p (suc k) = number_at text p ∷ numbers_at text (p + column_wid
 
 -- The words that n lines show.
 unfoldable pub words_at : List ℕ → ℕ → ℕ → ℕ → ℕ → List ℕ
-words_at text p kept zeros zero = []
-words_at text p kept zeros (suc n) = numbers_at text p kept ++ words_at text (p + line_width kept zeros) kept zeros n
+words_at text p kept fill zero = []
+words_at text p kept fill (suc n) = numbers_at text p kept ++ words_at text (p + line_width kept fill) kept fill n
 
 -- The counts of a text's first line.
 unfoldable pub counts_at : List ℕ → Counts

@@ -58,16 +58,16 @@ words_whole old out words p w i kept h e = e ∙ ap (λ n. laid_at old p (column
 
 -- Words, zeros and a newline.
 pub record_laid :
-    (old o1 o2 o3 words : List ℕ) (p w kept zeros : ℕ) {q : ℕ} → zeros ≤ most_columns → w + kept ≤ length words → p + line_width kept zeros ≤ length old
-    → o1 ≡ laid_at old p (columns (take kept (drop w words))) → o2 ≡ laid_at o1 (p + column_width * kept) (columns (take zeros (replicate most_columns 0)))
-    → q ≡ column_width * (kept + zeros) → o3 ≡ laid_at o2 (p + q) (10 ∷ []) → o3 ≡ laid_at old p (line (take kept (drop w words) ++ replicate zeros 0))
+    (old o1 o2 o3 words : List ℕ) (p w kept fill : ℕ) {q : ℕ} → fill ≤ most_columns → w + kept ≤ length words → p + line_width kept fill ≤ length old
+    → o1 ≡ laid_at old p (columns (take kept (drop w words))) → o2 ≡ laid_at o1 (p + column_width * kept) (columns (take fill (replicate most_columns 0)))
+    → q ≡ column_width * (kept + fill) → o3 ≡ laid_at o2 (p + q) (10 ∷ []) → o3 ≡ laid_at old p (line (take kept (drop w words) ++ replicate fill 0))
 unfolding line
-record_laid old o1 o2 o3 words p w kept zeros enough k h e1 e2 at-end e3 =
+record_laid old o1 o2 o3 words p w kept fill enough k h e1 e2 at-end e3 =
     let l = take kept (drop w words) in
-    let z = replicate {A = ℕ} zeros 0 in
+    let z = replicate {A = ℕ} fill 0 in
     let n = columns-length l ∙ ap (column_width *◌) (part_length words w kept k) in
-    let j = columns-length z ∙ ap (column_width *◌) (length-replicate {A = ℕ} zeros 0) in
-    let g = e2 ∙ ap (λ x. laid_at o1 (p + column_width * kept) (columns x)) (first-zeros zeros most_columns enough) in
+    let j = columns-length z ∙ ap (column_width *◌) (length-replicate {A = ℕ} fill 0) in
+    let g = e2 ∙ ap (λ x. laid_at o1 (p + column_width * kept) (columns x)) (first-zeros fill most_columns enough) in
     let f2 = laid_at_then old o1 o2 p (p + column_width * kept) (columns l) (columns z) (omega arith) (omega arith) e1 g ∙ ap (laid_at old p) (sym (columns-append l z)) in
     let r = ap length (columns-append l z) ∙ length-append (columns l) (columns z) in
     laid_at_then old o2 o3 p _ (columns (l ++ z)) (10 ∷ []) (omega arith) (omega arith) f2 e3
@@ -84,32 +84,32 @@ pub room-start : (a k n len : ℕ) → a + k * n ≤ len → a + k * (n - 0) ≤
 room-start a k n len h = let z : n - 0 ≡ n = omega arith in omega (arith, ap (k *◌) z)
 
 -- All lines are left to write.
-pub lines_start : (old words : List ℕ) (p kept zeros n : ℕ) → laid_at old p (lines kept zeros (n - 0) (drop 0 words)) ≡ laid_at old p (lines kept zeros n words)
-lines_start old words p kept zeros n = let z : n - 0 ≡ n = omega arith in ap (λ m. laid_at old p (lines kept zeros m words)) z
+pub lines_start : (old words : List ℕ) (p kept fill n : ℕ) → laid_at old p (lines kept fill (n - 0) (drop 0 words)) ≡ laid_at old p (lines kept fill n words)
+lines_start old words p kept fill n = let z : n - 0 ≡ n = omega arith in ap (λ m. laid_at old p (lines kept fill m words)) z
 
 -- One record of n more; what is left to write is the lines after it.
-pub lines-turn : (old new words : List ℕ) (at w kept zeros i n : ℕ) {width : ℕ} → width ≡ line_width kept zeros → i < n → w + kept ≤ length words
-    → at + line_width kept zeros ≤ length old → new ≡ laid_at old at (line (take kept (drop w words) ++ replicate zeros 0))
-    → laid_at new (at + width) (lines kept zeros (n - (i + 1)) (drop (w + kept) words)) ≡ laid_at old at (lines kept zeros (n - i) (drop w words))
+pub lines-turn : (old new words : List ℕ) (at w kept fill i n : ℕ) {width : ℕ} → width ≡ line_width kept fill → i < n → w + kept ≤ length words
+    → at + line_width kept fill ≤ length old → new ≡ laid_at old at (line (take kept (drop w words) ++ replicate fill 0))
+    → laid_at new (at + width) (lines kept fill (n - (i + 1)) (drop (w + kept) words)) ≡ laid_at old at (lines kept fill (n - i) (drop w words))
 unfolding lines
-lines-turn old new words at w kept zeros i n wide lt k h e =
-    let one = line (take kept (drop w words) ++ replicate zeros 0) in
-    let W : ℕ = line_width kept zeros in
+lines-turn old new words at w kept fill i n wide lt k h e =
+    let one = line (take kept (drop w words) ++ replicate fill 0) in
+    let W : ℕ = line_width kept fill in
     let m = n - (i + 1) in
     let z : suc m ≡ n - i = omega arith in
-    let s : length one ≡ W = line-length (take kept (drop w words) ++ replicate zeros 0)
-    ∙ omega (arith, length-append (take kept (drop w words)) (replicate zeros 0), part_length words w kept k, length-replicate {A = ℕ} zeros 0) in
-    ap (λ x. laid_at new (at + x) (lines kept zeros m (drop (w + kept) words))) wide
-    ∙ ap₂ (λ x y. laid_at x (at + W) (lines kept zeros m y)) e (sym (drop-drop kept w words))
-    ∙ laid_at_next old at (at + W) one (lines kept zeros m (drop kept (drop w words))) (omega arith) h
-    ∙ ap (λ x. laid_at old at (lines kept zeros x (drop w words))) z
+    let s : length one ≡ W = line-length (take kept (drop w words) ++ replicate fill 0)
+    ∙ omega (arith, length-append (take kept (drop w words)) (replicate fill 0), part_length words w kept k, length-replicate {A = ℕ} fill 0) in
+    ap (λ x. laid_at new (at + x) (lines kept fill m (drop (w + kept) words))) wide
+    ∙ ap₂ (λ x y. laid_at x (at + W) (lines kept fill m y)) e (sym (drop-drop kept w words))
+    ∙ laid_at_next old at (at + W) one (lines kept fill m (drop kept (drop w words))) (omega arith) h
+    ∙ ap (λ x. laid_at old at (lines kept fill x (drop w words))) z
 
 -- No record is left.
-pub lines-whole : (old out words rest : List ℕ) (p at kept zeros n left : ℕ) → left ≤ 0 → laid_at out at (lines kept zeros left rest) ≡ laid_at old p (lines kept zeros n words)
-    → out ≡ laid_at old p (lines kept zeros n words)
+pub lines-whole : (old out words rest : List ℕ) (p at kept fill n left : ℕ) → left ≤ 0 → laid_at out at (lines kept fill left rest) ≡ laid_at old p (lines kept fill n words)
+    → out ≡ laid_at old p (lines kept fill n words)
 unfolding lines
-lines-whole old out words rest p at kept zeros n zero h e = sym (laid_at_none out at) ∙ e
-lines-whole old out words rest p at kept zeros n (suc left) h e = absurd (omega arith)
+lines-whole old out words rest p at kept fill n zero h e = sym (laid_at_none out at) ∙ e
+lines-whole old out words rest p at kept fill n (suc left) h e = absurd (omega arith)
 
 -- ---- bytes copied ----
 

@@ -28,11 +28,10 @@ returns_2 c =
     inside_not _ _ _ c.loop-i-test.true c.get_run-r.ensures c.loop-i.invariant.1 (omega (arith, c.if-terms-r.false, c.if-terms-r-2.true))
 
 loop_again : tie.Need-loop-i-preserved invariant_loop decreases_loop
-loop_again c =
-    (
-      search rules,
-      inside_next _ _ _ c.loop-i-test.true c.get_run-r.ensures c.loop-i.invariant.1 (omega (arith, c.if-terms-r.false, c.if-terms-r-2.false)),
-    )
+loop_again c = (
+  search rules,
+  inside_next _ _ _ c.loop-i-test.true c.get_run-r.ensures c.loop-i.invariant.1 (omega (arith, c.if-terms-r.false, c.if-terms-r-2.false)),
+)
 
 returns_3 : tie.Need-returns invariant_loop decreases_loop
 returns_3 c = inside-all _ _ c.loop-i.i (omega (arith, c.loop-i-test.false, c.loop-i.invariant.0)) c.loop-i.invariant.1

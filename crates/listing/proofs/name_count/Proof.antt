@@ -39,14 +39,13 @@ returns_4 c =
     (start_many (store_of _ [] 0 [] 0) (request_of empty_field _ _ []) c.if-given-gt-NAME_LIMIT.true)
 
 number_names_requires : tie.Need-number_names-found-requires
-number_names_requires c κs =
-    (
-      (even_short _ _ (sym c.request_even.ensures ∙ not-false _ c.if-not-request_even.false-raw), search rules, search rules),
-      (
-        true-T _ (sym c.pattern_ok.ensures ∙ not-false _ c.if-not-pattern_ok.false-raw),
-        true-T _ (sym c.bindings_ok.ensures ∙ not-false _ c.if-not-bindings_ok.false-raw),
-      ),
-    )
+number_names_requires c κs = (
+  (even_short _ _ (sym c.request_even.ensures ∙ not-false _ c.if-not-request_even.false-raw), search rules, search rules),
+  (
+    true-T _ (sym c.pattern_ok.ensures ∙ not-false _ c.if-not-pattern_ok.false-raw),
+    true-T _ (sym c.bindings_ok.ensures ∙ not-false _ c.if-not-bindings_ok.false-raw),
+  ),
+)
 
 returns_5 : tie.Need-returns-then-found-gt-NAME_LIMIT
 returns_5 c =

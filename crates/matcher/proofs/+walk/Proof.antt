@@ -110,15 +110,14 @@ module _ (t : ℕ) where
   -- ---- exits before a turn ----
 
   returns : walk-lts.Need-returns-then-s-ne0 (R t) (walk_at t) walk.Post invariant_loop decreases_loop
-  returns c =
-      (
-        record {
-          written = written_none _ _ _ c.requires.1.1.most (ready_more c.requires.1.0.0 (not_there _ _ c.if-pattern-p.true) c.if-s-ne0.true);
-          levels-same = refl;
-          entries_same = refl;
-        },
-        c.requires.1.0.1,
-      )
+  returns c = (
+    record {
+      written = written_none _ _ _ c.requires.1.1.most (ready_more c.requires.1.0.0 (not_there _ _ c.if-pattern-p.true) c.if-s-ne0.true);
+      levels-same = refl;
+      entries_same = refl;
+    },
+    c.requires.1.0.1,
+  )
 
   emit_requires : walk-lts.Need-emit-requires (R t) (walk_at t) walk.Post invariant_loop decreases_loop
   emit_requires c κs =
@@ -126,15 +125,14 @@ module _ (t : ℕ) where
       ((y.names_few, y.entry-room), c.requires.1.1)
 
   returns_2 : walk-lts.Need-returns-then-pattern-p (R t) (walk_at t) walk.Post invariant_loop decreases_loop
-  returns_2 c =
-      (
-        record {
-          written = written_same (ready_hit c.requires.1.0.0 (not_there _ _ c.if-pattern-p.true) c.if-s-ne0.false) c.emit.ensures;
-          levels-same = refl;
-          entries_same = refl;
-        },
-        c.requires.1.0.1,
-      )
+  returns_2 c = (
+    record {
+      written = written_same (ready_hit c.requires.1.0.0 (not_there _ _ c.if-pattern-p.true) c.if-s-ne0.false) c.emit.ensures;
+      levels-same = refl;
+      entries_same = refl;
+    },
+    c.requires.1.0.1,
+  )
 
   -- ---- the turn, and where nothing comes after it ----
 

@@ -22,14 +22,13 @@ loop_holds : tie.Need-loop-i-init invariant_loop decreases_loop
 loop_holds c = (omega arith, λ h. below_none _)
 
 loop_again : tie.Need-loop-i-preserved invariant_loop decreases_loop
-loop_again c =
-    (
-      omega arith,
-      λ e. elim c.if-numbers-s.branch [
-        then-numbers-s w ↦ never e w.same-is
-        | else-numbers-s w ↦ below_more _ _ (c.loop-i.invariant.1 (sym w.same-is ∙ e)) w.if-numbers-s.false
-      ],
-    )
+loop_again c = (
+  omega arith,
+  λ e. elim c.if-numbers-s.branch [
+    | then-numbers-s w ↦ never e w.same-is
+    | else-numbers-s w ↦ below_more _ _ (c.loop-i.invariant.1 (sym w.same-is ∙ e)) w.if-numbers-s.false
+  ],
+)
 
 returns : tie.Need-returns invariant_loop decreases_loop
 returns c e i h = c.loop-i.invariant.1 e i (omega arith)

@@ -8,13 +8,12 @@ use Rattle.numbers.proofs.apart_above.Statement.{statement}
 use Rattle.numbers.proofs.apart_above.Tie as tie
 
 returns : tie.Need-returns-then-t-u
-returns c =
-    (
-      omega arith,
-      λ used store lt inside known.
-          at_differ _ _ used store _ _ (as_term c.get_term-t.result) (as_term c.get_term-u.result) (omega arith) inside
-          c.get_term-t.ensures c.get_term-u.ensures c.if-t-u.true,
-    )
+returns c = (
+  omega arith,
+  λ used store lt inside known.
+      at_differ _ _ used store _ _ (as_term c.get_term-t.result) (as_term c.get_term-u.result) (omega arith) inside
+      c.get_term-t.ensures c.get_term-u.ensures c.if-t-u.true,
+)
 
 runs_apart_requires : tie.Need-runs_apart-requires
 runs_apart_requires c κs =
@@ -52,24 +51,22 @@ equal_symbols_requires c κs =
     )
 
 returns_3 : tie.Need-returns-then-equal_symbols
-returns_3 c =
-    (
-      omega arith,
-      λ used store lt inside known.
-          sym c.if-equal_symbols.true ∙ c.equal_symbols.ensures
-          ∙ at_symbols _ _ used store _ _ (as_term c.get_term-t.result) (as_term c.get_term-u.result) (omega arith) inside
-          c.get_term-t.ensures c.get_term-u.ensures c.if-t-u.false c.if-t-eq-BRACKET.false,
-    )
+returns_3 c = (
+  omega arith,
+  λ used store lt inside known.
+      sym c.if-equal_symbols.true ∙ c.equal_symbols.ensures
+      ∙ at_symbols _ _ used store _ _ (as_term c.get_term-t.result) (as_term c.get_term-u.result) (omega arith) inside
+      c.get_term-t.ensures c.get_term-u.ensures c.if-t-u.false c.if-t-eq-BRACKET.false,
+)
 
 returns_4 : tie.Need-returns
-returns_4 c =
-    (
-      omega arith,
-      λ used store lt inside known.
-          sym c.if-equal_symbols.false ∙ c.equal_symbols.ensures
-          ∙ at_symbols _ _ used store _ _ (as_term c.get_term-t.result) (as_term c.get_term-u.result) (omega arith) inside
-          c.get_term-t.ensures c.get_term-u.ensures c.if-t-u.false c.if-t-eq-BRACKET.false,
-    )
+returns_4 c = (
+  omega arith,
+  λ used store lt inside known.
+      sym c.if-equal_symbols.false ∙ c.equal_symbols.ensures
+      ∙ at_symbols _ _ used store _ _ (as_term c.get_term-t.result) (as_term c.get_term-u.result) (omega arith) inside
+      c.get_term-t.ensures c.get_term-u.ensures c.if-t-u.false c.if-t-eq-BRACKET.false,
+)
 
 pub apart_above_spec : {M : Type 1} → statement M
 apart_above_spec =

@@ -37,7 +37,7 @@ loop_less c =
     attempts_fall c.loop-done.done _ c.loop-done.left c.if-left-ne0.left (not-true _ c.loop-done-test.true-raw)
     (λ e.
     elim c.if-left-ne0.branch [
-      then-left-ne0 w ↦ omega (arith, w.if-left-ne0.true, w.left-is)
+      | then-left-ne0 w ↦ omega (arith, w.if-left-ne0.true, w.left-is)
       | else-left-ne0 w ↦ never (c.number_within-done.ensures.1 (omega (arith, c.most_of-most.ensures w.if-left-ne0.false))) e
     ])
 

@@ -28,11 +28,10 @@ returns c =
     })
 
 loop_again : tie.Need-loop-i-preserved invariant_loop decreases_loop
-loop_again c =
-    (
-      search rules,
-      right_next _ _ c.loop-i.invariant.1 c.get_binding-b.ensures (sym c.binding_ok.ensures ∙ not-false _ c.if-not-binding_ok.false-raw),
-    )
+loop_again c = (
+  search rules,
+  right_next _ _ c.loop-i.invariant.1 c.get_binding-b.ensures (sym c.binding_ok.ensures ∙ not-false _ c.if-not-binding_ok.false-raw),
+)
 
 returns_2 : tie.Need-returns invariant_loop decreases_loop
 returns_2 c =

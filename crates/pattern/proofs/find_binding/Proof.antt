@@ -30,12 +30,11 @@ returns c =
     (sym c.same_name.ensures ∙ c.if-same_name.true)
 
 loop_again : tie.Need-loop-i-preserved invariant_loop decreases_loop
-loop_again c =
-    (
-      search rules,
-      passed _ _ _ (binding_next _ _ _ _ c.loop-i-test.true c.get_binding-b.ensures) c.loop-i.invariant.1
-          (sym c.same_name.ensures ∙ c.if-same_name.false),
-    )
+loop_again c = (
+  search rules,
+  passed _ _ _ (binding_next _ _ _ _ c.loop-i-test.true c.get_binding-b.ensures) c.loop-i.invariant.1
+      (sym c.same_name.ensures ∙ c.if-same_name.false),
+)
 
 returns_2 : tie.Need-returns invariant_loop decreases_loop
 returns_2 c = not_found _ _ c.loop-i.i (bindings-length _ _ _) c.loop-i-test.false c.loop-i.invariant.0 c.loop-i.invariant.1

@@ -34,12 +34,11 @@ returns c =
     c.loop-i.invariant.1 (sym c.same_name.ensures ∙ c.if-same_name.true)
 
 loop_again : tie.Need-loop-i-preserved invariant_loop decreases_loop
-loop_again c =
-    (
-      search rules,
-      passed _ _ _ (first_next _ _ _ _ c.requires.0 _ c.loop-i-test.true c.word.ensures c.get_item-u.ensures)
-          c.loop-i.invariant.1 (sym c.same_name.ensures ∙ c.if-same_name.false),
-    )
+loop_again c = (
+  search rules,
+  passed _ _ _ (first_next _ _ _ _ c.requires.0 _ c.loop-i-test.true c.word.ensures c.get_item-u.ensures)
+      c.loop-i.invariant.1 (sym c.same_name.ensures ∙ c.if-same_name.false),
+)
 
 returns_2 : tie.Need-returns invariant_loop decreases_loop
 returns_2 c =

@@ -51,20 +51,18 @@ fit_record_requires c κs =
     )
 
 returns : tie.Need-returns-in-No invariant_loop decreases_loop
-returns c =
-    (
-      left_no c.loop-i.invariant.0 c.loop-i-test.true c.get_item-t.ensures _ c.if-d-gt0.false c.word-x.ensures
-          c.fit_record.ensures.1 c.in-No.is,
-      c.fit_record.ensures.2,
-    )
+returns c = (
+  left_no c.loop-i.invariant.0 c.loop-i-test.true c.get_item-t.ensures _ c.if-d-gt0.false c.word-x.ensures
+      c.fit_record.ensures.1 c.in-No.is,
+  c.fit_record.ensures.2,
+)
 
 returns_2 : tie.Need-returns-in-Ends invariant_loop decreases_loop
-returns_2 c =
-    (
-      left-ends c.loop-i.invariant.0 c.loop-i-test.true c.get_item-t.ensures _ c.if-d-gt0.false c.word-x.ensures
-          c.fit_record.ensures.1 c.in-Ends.is,
-      c.fit_record.ensures.2,
-    )
+returns_2 c = (
+  left-ends c.loop-i.invariant.0 c.loop-i-test.true c.get_item-t.ensures _ c.if-d-gt0.false c.word-x.ensures
+      c.fit_record.ensures.1 c.in-Ends.is,
+  c.fit_record.ensures.2,
+)
 
 add_start : tie.Need-overflow_add-start invariant_loop decreases_loop
 add_start c =
@@ -83,13 +81,12 @@ loop_less_2 : tie.Need-loop-i-smaller invariant_loop decreases_loop
 loop_less_2 c = omega (arith, c.loop-i-test.true)
 
 loop_again_2 : tie.Need-loop-i-preserved invariant_loop decreases_loop
-loop_again_2 c =
-    (
-      left-takes c.loop-i.invariant.0 c.loop-i-test.true c.get_item-t.ensures _ c.if-d-gt0.false c.word-x.ensures
-          c.fit_record.ensures.1 c.fit_record.ensures.0 c.in-Takes.is c.opens-d.ensures,
-      c.fit_record.ensures.2,
-      omega (arith, c.loop-i.invariant.2, c.fit_record.auto.known),
-    )
+loop_again_2 c = (
+  left-takes c.loop-i.invariant.0 c.loop-i-test.true c.get_item-t.ensures _ c.if-d-gt0.false c.word-x.ensures
+      c.fit_record.ensures.1 c.fit_record.ensures.0 c.in-Takes.is c.opens-d.ensures,
+  c.fit_record.ensures.2,
+  omega (arith, c.loop-i.invariant.2, c.fit_record.auto.known),
+)
 
 returns_3 : tie.Need-returns invariant_loop decreases_loop
 returns_3 c = let inv = c.loop-i.invariant in (left_end inv.0 c.loop-i-test.false, inv.1)

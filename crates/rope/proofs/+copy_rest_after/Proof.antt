@@ -71,9 +71,9 @@ module _ (t : ℕ) where
   -- the function did not call itself: the terms are as they came
   kept : (c : Met) → c.if-len-from.terms ≡ (begin c).args.terms.now
   kept c = elim c.if-len-from.branch [
-      then-len-from w ↦ absurd (omega (arith, w.if-len-from.true, (begin c).requires.1.1.0.1))
-      | else-len-from w ↦ w.terms-is
-    ]
+    | then-len-from w ↦ absurd (omega (arith, w.if-len-from.true, (begin c).requires.1.1.0.1))
+    | else-len-from w ↦ w.terms-is
+  ]
 
   room : (c : Met) → Lies term_layout c.if-len-from.terms ((begin c).args.terms_used + (begin c).args.len)
   room c = omega (arith, ap length (kept c), (begin c).requires.1.1.1)
@@ -138,8 +138,7 @@ module _ (t : ℕ) where
   loop_again c =
       let copied = c.before.before in
       let read = copied.before.before.before.before in
-      let part-found = read.before.before in
-      (
+      let part-found = read.before.before in (
         read.read_places.ensures.1 ∙ part-found.loop-done.invariant.0,
         inside part-found,
         λ used asked.

@@ -72,9 +72,9 @@ module _ (t : ℕ) where
   -- the function did not call itself: the buffer is as it came
   kept : (c : Met) → c.if-len-from.work ≡ (begin c).args.work.now
   kept c = elim c.if-len-from.branch [
-      then-len-from w ↦ absurd (omega (arith, w.if-len-from.true, (begin c).requires.1.1.0))
-      | else-len-from w ↦ w.work-is
-    ]
+    | then-len-from w ↦ absurd (omega (arith, w.if-len-from.true, (begin c).requires.1.1.0))
+    | else-len-from w ↦ w.work-is
+  ]
 
   room : (c : Met) → Lies term_layout c.if-len-from.work (begin c).args.len
   room c = omega (arith, ap length (kept c), (begin c).requires.1.1.1)

@@ -117,8 +117,7 @@ loop_again : tie.Need-loop-done-preserved invariant_loop decreases_loop
 loop_again c =
     let copied = c.before.before.before.before.before in
     let at_front = copied.before.before.before.before in
-    let has-fuel = at_front.before in
-    (
+    let has-fuel = at_front.before in (
       c.past-at.ensures.0,
       λ used asked.
           let so_far = done_run (has-fuel.loop-done.invariant.1 used asked) (run has-fuel asked).goes in

@@ -213,8 +213,7 @@ loop_again c =
     let alike = past_first.before.before in
     let compared = alike in
     let chosen = compared.before in
-    let fuelled = chosen.before.before.before in
-    (
+    let fuelled = chosen.before.before.before in (
       past_first.past-a.ensures.0,
       c.past-b.ensures.0,
       λ over used asked.

@@ -31,13 +31,12 @@ add_write_line_2 c =
     omega (arith, mod-le c.loop-i.i c.args.k)
 
 loop_again : tie.Need-loop-i-preserved invariant_loop decreases_loop
-loop_again c =
-    (
-      omega arith,
-      c.write_line.auto.out ∙ c.loop-i.invariant.1,
-      entries_step c.args.k _ _ _ _ _ (omega arith) c.loop-i.invariant.2
-          (rw (← c.word-start.ensures, ← c.word-len.ensures) c.write_line.ensures),
-    )
+loop_again c = (
+  omega arith,
+  c.write_line.auto.out ∙ c.loop-i.invariant.1,
+  entries_step c.args.k _ _ _ _ _ (omega arith) c.loop-i.invariant.2
+      (rw (← c.word-start.ensures, ← c.word-len.ensures) c.write_line.ensures),
+)
 
 same_length : tie.Need-shape_of-out invariant_loop decreases_loop
 same_length c = c.loop-i.invariant.1

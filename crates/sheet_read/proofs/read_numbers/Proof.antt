@@ -19,11 +19,10 @@ loop_holds : tie.Need-loop-i-init invariant_loop decreases_loop
 loop_holds c = (omega arith, numbers_none _ _ 0 _ _)
 
 set_word_requires : tie.Need-set_word-requires invariant_loop decreases_loop
-set_word_requires c κs =
-    (
-      numbers_room _ _ _ _ _ (omega arith) c.loop-i.invariant.1,
-      omega (arith, number-below _ _ _ _ c.requires.1 c.loop-i-test.true),
-    )
+set_word_requires c κs = (
+  numbers_room _ _ _ _ _ (omega arith) c.loop-i.invariant.1,
+  omega (arith, number-below _ _ _ _ c.requires.1 c.loop-i-test.true),
+)
 
 loop_again : tie.Need-loop-i-preserved invariant_loop decreases_loop
 loop_again c =

@@ -20,12 +20,11 @@ loop_holds : tie.Need-loop-k-init invariant_loop decreases_loop
 loop_holds c = (omega arith, refl, refl)
 
 loop_again : tie.Need-loop-k-preserved invariant_loop decreases_loop
-loop_again c =
-    (
-      omega arith,
-      c.set_byte-in-loop-k.auto.out ∙ c.loop-k.invariant.1,
-      leading_step _ _ _ _ _ _ (omega arith) (omega arith) c.digit_of.ensures.0 c.set_byte-in-loop-k.ensures ∙ c.loop-k.invariant.2,
-    )
+loop_again c = (
+  omega arith,
+  c.set_byte-in-loop-k.auto.out ∙ c.loop-k.invariant.1,
+  leading_step _ _ _ _ _ _ (omega arith) (omega arith) c.digit_of.ensures.0 c.set_byte-in-loop-k.ensures ∙ c.loop-k.invariant.2,
+)
 
 same_length : tie.Need-shape_of-out invariant_loop decreases_loop
 same_length c = c.loop-k.invariant.1 ∙ c.set_byte.auto.out

@@ -73,13 +73,12 @@ turn_expression_requires c κs =
     ((ready at-start.before.before.before.before.before.before.before.before.before.before.before.before.before.before.before, at-start.requires.0.2.known, at-start.requires.0.3), fine-name _ _ _ _ (omega (arith, at-kind.if-t-eq-E_VARIABLE.true)) (omega (arith, at-kind.if-t-eq-E_VARIABLE.true)) at-start.requires.1.1)
 
 returns_5 : tie.Need-returns-then-t-eq-E_VARIABLE
-returns_5 c =
-    (
-      c.turn_expression.ensures.0 _ ∙ turn_many _ _ _ _ _ _ _ _ c.if-t-eq-E_VARIABLE.true,
-      levels-same _ _ _,
-      c.turn_expression.ensures.1,
-      c.turn_expression.ensures.2,
-    )
+returns_5 c = (
+  c.turn_expression.ensures.0 _ ∙ turn_many _ _ _ _ _ _ _ _ c.if-t-eq-E_VARIABLE.true,
+  levels-same _ _ _,
+  c.turn_expression.ensures.1,
+  c.turn_expression.ensures.2,
+)
 
 returns_6 : tie.Need-returns
 unfolding turn_as

@@ -15,12 +15,11 @@ returns : tie.Need-returns-then-s-eq0
 returns c = (λ names used last bd inside. stopped _ _ _ bd c.stop.ensures ∙ open_none _ _ _ last _ _ _ c.if-s-eq0.true, levels-same _ _ _)
 
 returns_2 : tie.Need-returns-then-u-ne-BRACKET
-returns_2 c =
-    (
-      λ names used last bd inside. stopped _ _ _ bd c.stop-then-u-ne-BRACKET.ensures
-          ∙ open_other _ _ _ last _ _ _ _ c.get_term-u.ensures inside c.if-s-eq0.false c.if-u-ne-BRACKET.true,
-      levels-same _ _ _,
-    )
+returns_2 c = (
+  λ names used last bd inside. stopped _ _ _ bd c.stop-then-u-ne-BRACKET.ensures
+      ∙ open_other _ _ _ last _ _ _ _ c.get_term-u.ensures inside c.if-s-eq0.false c.if-u-ne-BRACKET.true,
+  levels-same _ _ _,
+)
 
 returns_3 : tie.Need-returns
 returns_3 c =

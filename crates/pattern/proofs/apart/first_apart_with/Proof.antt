@@ -77,12 +77,12 @@ loop_again c =
     let new = told_no c.name_entered-looked.ensures.1 c.if-looked.false in (
       search rules,
       elim c.if-k-lt-LIMIT.branch [
-        then-k-lt-LIMIT w ↦ rw (w.heads-is ∙ w.enter.ensures.0, w.earlier-is ∙ w.enter.ensures.1) (tables_entered was.1 key w.if-k-lt-LIMIT.true)
+        | then-k-lt-LIMIT w ↦ rw (w.heads-is ∙ w.enter.ensures.0, w.earlier-is ∙ w.enter.ensures.1) (tables_entered was.1 key w.if-k-lt-LIMIT.true)
         | else-k-lt-LIMIT w ↦ rw (w.heads-is, w.earlier-is) (tables_passed was.1 w.if-k-lt-LIMIT.false)
       ],
       apart_next _ _ was.2 new,
       elim c.if-not-way.branch [
-        then-not-way+else-k-cost w ↦ omega (arith, w.if-k-cost.false, w.cost-is)
+        | then-not-way+else-k-cost w ↦ omega (arith, w.if-k-cost.false, w.cost-is)
         | else-not-way w ↦ omega (arith, w.cost-is, was.3)
       ],
     )
