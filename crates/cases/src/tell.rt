@@ -3,6 +3,7 @@ ghost use Rattle.std.specs.Prelude.{◌≤◌, length};
 
 use crate::at::State;
 use crate::{at, store};
+use std::env::FillError;
 use std::io;
 use std::rt::Env;
 
@@ -22,6 +23,11 @@ pub fn arg(rt: &impl Env, i: usize, buf: &mut [u8]) -> usize
         Ok(n) => n,
         Err(_) => 0,
     }
+}
+
+// Whether there is an argument i.
+pub fn there(rt: &impl Env, i: usize) -> bool {
+    !matches!(rt.arg(i, &mut []), Err(FillError::NotPresent))
 }
 
 // The file's name.

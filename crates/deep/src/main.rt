@@ -11,7 +11,6 @@ mod stores;
 
 use lines::Parsed;
 use sheet_write::Written;
-use std::io::Read;
 use std::rt::{Env, Files};
 use std::{fs, io, str};
 
@@ -217,18 +216,19 @@ fn open<R: Files>(rt: &R, path: &[u8]) -> Option<R::File> {
 
 // A file that cannot be opened has no cases, and none is printed.
 fn file(
-    rt: &(impl Env + Files + AllocGlobal + Print),
+    rt: &(impl Env + Files + Print),
     nodes: &mut [u32; 393222],
     words: &mut [u32; TERM_ROOM],
     line: &mut Line,
 ) -> io::Result<()> {
     let mut path = [0u8; 4096];
     let n = arg(rt, 1, &mut path);
-    let mut text = Vec::new(rt.alloc());
-    if let Some(file) = open(rt, &path[..n]) {
-        file.take(65536).read_to_end(&mut text)?;
+    let mut text = [0u8; 65536];
+    let mut end = 0;
+    if let Some(mut file) = open(rt, &path[..n]) {
+        end = lines::read_full(&mut file, &mut text)?;
     }
-    all_lines(rt, &text, nodes, words, line)?;
+    all_lines(rt, lines::first(&text, end), nodes, words, line)?;
     write(rt, &path[..n])?;
     write(rt, b":")?;
     number(rt, line[CASES])?;
@@ -240,13 +240,11 @@ fn file(
 // ---- the sheet ----
 
 // The answer to the sheet, `t.1 t.1` on two terms that share their contents (examples/shared.sheet), as the program `sheet` prints it.
-fn answer_sheet(rt: &(impl Input + AllocGlobal + Print)) -> io::Result<()> {
-    let mut text = Vec::new(rt.alloc());
-    rt.reader()
-        .take(sheet_job::LONGEST_SHEET as u64 + 1)
-        .read_to_end(&mut text)?;
+fn answer_sheet(rt: &(impl Input + Print)) -> io::Result<()> {
+    let mut text = [0u8; sheet_job::LONGEST_SHEET + 1];
+    let n = lines::read_full(&mut rt.reader(), &mut text)?;
     let mut out = [0u8; sheet_job::LONGEST_ANSWER];
-    match sheet_job::run_sheet(&text, &mut out) {
+    match sheet_job::run_sheet(&text[..n], &mut out) {
         Written::Bytes(k) => write(rt, lines::first(&out, k)),
         Written::Refused(_) => Ok(()),
     }

@@ -1,7 +1,10 @@
 // Texts of lines and tokens, for the programs that read their cases. A token is quoted, or ends at a space.
 #![tactic(auto)]
 
-ghost use Rattle.std.specs.Prelude.{◌<◌, ◌≤◌, length};
+ghost use Rattle.std.specs.Prelude.{◌<◌, ◌≤◌, IfOk, length};
+
+use std::io;
+use std::io::Read;
 
 // What no list of words has.
 pub const NONE: usize = 99;
@@ -137,4 +140,19 @@ pub fn decimal(t: &[u8]) -> Parsed {
         i += 1;
     }
     Parsed::Is(n)
+}
+
+// Reads until the buffer is full or nothing is left, and says how many bytes were read.
+pub fn read_full(file: &mut impl Read, buf: &mut [u8]) -> io::Result<usize>
+    ensures { IfOk result (λ n. n ≤ length buf.new) }
+{
+    let mut filled = 0;
+    for _ in 0..buf.len() {
+        let n = file.read(&mut buf[filled..])?;
+        if n == 0 {
+            return Ok(filled);
+        }
+        filled += n;
+    }
+    Ok(filled)
 }

@@ -3,7 +3,6 @@
 
 use sheet_write::Written;
 use std::io;
-use std::io::Read;
 
 // The first n bytes go to standard output.
 fn print(rt: &impl Print, out: &[u8], n: usize) -> io::Result<()> {
@@ -15,12 +14,10 @@ fn print(rt: &impl Print, out: &[u8], n: usize) -> io::Result<()> {
 
 // One byte more than the longest sheet has is read, so that what is longer is seen to be none.
 fn main(rt: HostRuntime) -> io::Result<()> {
-    let mut text = Vec::new(rt.alloc());
-    rt.reader()
-        .take(sheet_job::LONGEST_SHEET as u64 + 1)
-        .read_to_end(&mut text)?;
+    let mut text = [0u8; sheet_job::LONGEST_SHEET + 1];
+    let n = lines::read_full(&mut rt.reader(), &mut text)?;
     let mut out = [0u8; sheet_job::LONGEST_ANSWER];
-    match sheet_job::run_sheet(&text, &mut out) {
+    match sheet_job::run_sheet(&text[..n], &mut out) {
         Written::Bytes(k) => print(&rt, &out, k),
         Written::Refused(_) => print(&rt, &out, 0),
     }

@@ -1,9 +1,0 @@
--- `main`: the count of files falls.
-use Rattle.std.proofs.Common.{◌-◌}
-use Rattle.cases.proofs.main.Given as goal
-
-abbrev pub invariant-loop-i : goal.invariant-loop-i
-invariant-loop-i l = Unit {0}
-
-abbrev pub decreases-loop-i : goal.decreases-loop-i
-decreases-loop-i l = l.files - l.i

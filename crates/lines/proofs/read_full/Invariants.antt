@@ -1,0 +1,6 @@
+-- `read_full`: what is filled lies within the buffer.
+use Rattle.std.proofs.Common.{◌≤◌, length}
+use Rattle.lines.proofs.read_full.Given as goal
+
+abbrev pub invariant-loop : goal.invariant-loop
+invariant-loop g l = l.filled ≤ length l.buf
