@@ -1,3 +1,2 @@
 pub mod DropFront
 pub mod StopLaws
-pub mod BuildLaws

@@ -5,6 +5,4 @@ pub mod DigestLaws
 pub mod KeyLaws
 pub mod ChainLaws
 pub mod NumbersLaws
-pub mod SameKeyLaws
-pub mod TablesLaws
 pub mod NumberingLaws

@@ -1,9 +1,5 @@
--- The chart of lowered bytes as a list, and that it is the rule of lowering: one test over the whole list, and a law for each entry.
-use Rattle.std.specs.Prelude.{◌≡◌, refl, List, [], ◌∷◌, map, get_or, ℕ, ◌<◌}
-use Rattle.std.proofs.Common.{ap, sym, ◌∙◌, zero-add}
-use Rattle.term_spec.specs.Text.{lower}
-use Rattle.term_spec.specs.ListLaws.{numbers_from}
-use Rattle.term_spec.proofs.ListLaws.{map_numbers}
+-- The chart of lowered bytes as a list; that it is the rule of lowering stands in proofs/.
+use Rattle.std.specs.Prelude.{List, [], ◌∷◌, ℕ}
 
 -- How many bytes there are.
 abbrev pub byte_count : ℕ
@@ -28,12 +24,3 @@ lowered_bytes =
     208 ∷ 209 ∷ 210 ∷ 211 ∷ 212 ∷ 213 ∷ 214 ∷ 215 ∷ 216 ∷ 217 ∷ 218 ∷ 219 ∷ 220 ∷ 221 ∷ 222 ∷ 223 ∷
     224 ∷ 225 ∷ 226 ∷ 227 ∷ 228 ∷ 229 ∷ 230 ∷ 231 ∷ 232 ∷ 233 ∷ 234 ∷ 235 ∷ 236 ∷ 237 ∷ 238 ∷ 239 ∷
     240 ∷ 241 ∷ 242 ∷ 243 ∷ 244 ∷ 245 ∷ 246 ∷ 247 ∷ 248 ∷ 249 ∷ 250 ∷ 251 ∷ 252 ∷ 253 ∷ 254 ∷ 255 ∷ []
-
--- The test, computed: the rule gives this list for the 256 bytes.
-bytes_lowered : map lower (numbers_from 0 byte_count) ≡ lowered_bytes
-unfolding lower lowered_bytes
-bytes_lowered = refl
-
--- "Each entry is its byte, an ASCII capital lowered" (02: 2.4).
-pub entry_lowered : (c : ℕ) → c < byte_count → get_or lowered_bytes c 0 ≡ lower c
-entry_lowered c h = ap (λ l. get_or l c 0) (sym bytes_lowered) ∙ map_numbers lower 0 byte_count c h ∙ ap lower (zero-add c)

@@ -1,6 +1,6 @@
 -- `drop_front_build`: the way down keeps `Down`; at a stay or a cut it is at the bottom, and completing what was reserved ends as promised.
 use borrow.Author.Rules.{rules}
-use Rattle.drop_front.specs.BuildLaws.{Down, Bottom, AtCut, AtUnder, down_start, down_store, down_reaches, at_stay, at_cut, at_under}
+use Rattle.drop_front.proofs.BuildLaws.{Down, Bottom, AtCut, AtUnder, down_start, down_store, down_reaches, at_stay, at_cut, at_under}
 use Rattle.drop_front.proofs.drop_front_build.Statement.{statement}
 use Rattle.drop_front.proofs.drop_front_build.Tie as tie
 

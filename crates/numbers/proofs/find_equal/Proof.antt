@@ -7,7 +7,7 @@ use native.Mathlib.Omega.{arith}
 use Rattle.term_spec.specs.Term.{limit}
 use Rattle.numbers.specs.Numbers.{Searched}
 use Rattle.numbers.specs.ChainLaws.{sought_low, sought_less}
-use Rattle.numbers.specs.TablesLaws.{searched_next, placed_here, placed_nowhere}
+use Rattle.numbers.proofs.TablesLaws.{searched_next, placed_here, placed_nowhere}
 use Rattle.numbers.proofs.find_equal.Statement.{statement}
 use Rattle.numbers.proofs.find_equal.Tie as tie
 

@@ -3,7 +3,7 @@ use native.Mathlib.Omega.{arith}
 use borrow.Author.Rules.{rules}
 use Rattle.value.specs.EqualLaws.{texts_at, contents-below}
 use Rattle.numbers.specs.DigestLaws.{marked_below}
-use Rattle.numbers.specs.TablesLaws.{key_room, key_here, searched_head, placed-found, placed_none, tables_found, tables_entered}
+use Rattle.numbers.proofs.TablesLaws.{key_room, key_here, searched_head, placed-found, placed_none, tables_found, tables_entered}
 use Rattle.numbers.proofs.number_of.Statement.{statement}
 use Rattle.numbers.proofs.number_of.Tie as tie
 

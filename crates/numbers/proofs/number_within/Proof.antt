@@ -5,7 +5,7 @@ use Prim.Native.Nat.{◌+◌, ◌/◌}
 use Rattle.term_spec.specs.Term.{limit}
 use Rattle.numbers.specs.Digest.{stride}
 use Rattle.numbers.specs.DigestLaws.{marked_none}
-use Rattle.numbers.specs.TablesLaws.{tables_none}
+use Rattle.numbers.proofs.TablesLaws.{tables_none}
 use Rattle.numbers.proofs.number_within.Statement.{statement}
 use Rattle.numbers.proofs.number_within.Tie as tie
 

@@ -16,7 +16,7 @@ use Rattle.numbers.specs.ChainLaws.{chains_none, chains_same, chains_passed, cha
 use Rattle.numbers.specs.ChainLaws.{sought_head, sought_low, sought_entered, sought_next, sought_none}
 use Rattle.numbers.specs.Numbers.{Entered, key_of, key_at, Tables, Searched, Placed}
 use Rattle.numbers.specs.NumbersLaws.{forms-equal, forms_differ, equal-forms, equal_flip, equal-right, eqb_flip, never}
-use Rattle.numbers.specs.SameKeyLaws.{key_below, key_set, equal_key}
+use Rattle.numbers.proofs.SameKeyLaws.{key_below, key_set, equal_key}
 
 -- At first no term has its number.
 pub tables_none : (base : ℕ) (names w : List ℕ) (used : ℕ) (numbers : List ℕ) → TermStore names w used → used ≤ limit → used ≤ length numbers

@@ -1,0 +1,2 @@
+pub mod SameKeyLaws
+pub mod TablesLaws
