@@ -8,6 +8,8 @@ ghost use Rattle.view_spec.specs.Build.{drop_makes, drop_node, shrink};
 ghost use Rattle.nodes.specs.NodeStore.{nodes_in, AnyStore, Reaches, ReachesIn};
 ghost use Rattle.drop_front.specs.DropFront.{StoppedIn, plan_in, Room};
 
+use words::Node;
+
 // Where dropping ends along the right sides: at a node, in a Cons (its rest, to be made), or inside a Concat's left: that left, the
 // terms to drop there, the size left over, and the right.
 #[derive(Clone, Copy)]
@@ -28,7 +30,7 @@ fn stop_at(nodes: &[u32], node: usize, count: usize) -> Stop
         if left == 0 {
             return Stop::Stay(at);
         }
-        let n = words::get_node(nodes, at);
+        let n = words::get::<Node>(nodes, at);
         if left < n.b {
             if n.kind == words::CONS {
                 return Stop::Cut(n.a + left, n.b - left, n.c);

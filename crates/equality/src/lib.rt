@@ -12,7 +12,7 @@ ghost use Rattle.words.specs.Records.{as_run};
 ghost use Rattle.term_spec.specs.Words.{Lies};
 ghost use Rattle.term_spec.specs.Term.{term_layout, limit};
 
-use words::{Run, refusal};
+use words::{Run, Term, refusal};
 
 // ---- within a budget ----
 
@@ -32,8 +32,8 @@ fn equal_terms_within(names: &[u8], terms: &[u32], i: usize, j: usize, budget: u
         let store = terms.now in
         ((used : ℕ) → TermsIn text store i j used → Tells budget result (equal_at text store used i j)) }
 {
-    let t = words::get_term(terms, i);
-    let u = words::get_term(terms, j);
+    let t = words::get::<Term>(terms, i);
+    let u = words::get::<Term>(terms, j);
     if t.kind != u.kind {
         return Outcome::Different(budget);
     }
@@ -87,8 +87,7 @@ pub fn equal_runs_within(
         return Outcome::Spent;
     }
     let mut left = budget - first.len;
-    let mut k = 0;
-    while k < first.len {
+    for k in 0..first.len {
         match equal_terms_within(names, terms, first.start + k, second.start + k, left) {
             Outcome::Different(rest) => {
                 return Outcome::Different(rest + (first.len - k - 1));
@@ -98,7 +97,6 @@ pub fn equal_runs_within(
             }
             Outcome::Equal(rest) => {
                 left = rest;
-                k += 1;
             }
         }
     }
@@ -107,17 +105,15 @@ pub fn equal_runs_within(
 
 // ---- by numbers ----
 
-// Whether two runs are equal, all terms being numbered for it. The numbers take 128 KB of stack. It never calls itself; that it could keeps the
-// compiler from copying it, and its stack, into its callers.
+// Whether two runs are equal, all terms being numbered for it. The numbers take 128 KB of stack, which callers that never come
+// here do not need.
+#[inline(never)]
 fn equal_by_numbers(names: &[u8], terms: &[u32], used: usize, first: Run, second: Run) -> bool
     requires { RunsIn names.now terms.now (as_run first) (as_run second) used }
     ensures { result ≡ same_runs names.now terms.now used (as_run first) (as_run second) }
 {
     let mut known = [0u16; words::LIMIT];
     numbers::number_terms(names, terms, used, &mut known);
-    if words::LIMIT < used {
-        return equal_by_numbers(names, terms, used, first, second);
-    }
     numbers::equal_numbered(&known, first, second)
 }
 
@@ -217,8 +213,8 @@ fn apart_at_sight(terms: &[u32], i: usize, j: usize) -> bool
         ((names : List ℕ) (used : ℕ) → TermsIn names store i j used
         → result ≡ true → equal_at names store used i j ≡ false) }
 {
-    let t = words::get_term(terms, i);
-    let u = words::get_term(terms, j);
+    let t = words::get::<Term>(terms, i);
+    let u = words::get::<Term>(terms, j);
     if t.kind != u.kind {
         return true;
     }

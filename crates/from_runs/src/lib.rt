@@ -39,7 +39,7 @@ pub fn runs_inside(runs: &[u32], terms: usize) -> bool
     let n = runs.len() / words::RUN_WIDTH;
     let mut i = 0;
     while i < n {
-        let r = words::get_run(runs, i);
+        let r = words::get::<Run>(runs, i);
         if terms < r.len {
             return false;
         }
@@ -61,7 +61,7 @@ pub fn runs_total(runs: &[u32]) -> usize
     let mut i = 0;
     let mut sum = 0;
     while i < n {
-        let r = words::get_run(runs, i);
+        let r = words::get::<Run>(runs, i);
         sum += r.len;
         i += 1;
     }
@@ -96,7 +96,7 @@ pub fn from_runs_makes(runs: &[u32]) -> usize
     let mut start: usize = 0;
     while 0 < i {
         i -= 1;
-        let r = words::get_run(runs, i);
+        let r = words::get::<Run>(runs, i);
         match step_of(r, made, start) {
             Step::Skip => {
                 continue;
@@ -152,7 +152,7 @@ pub fn from_runs_build(nodes: &mut [u32], used: usize, runs: &[u32]) -> usize
     let mut len: usize = 0;
     while 0 < i {
         i -= 1;
-        let r = words::get_run(runs, i);
+        let r = words::get::<Run>(runs, i);
         match step_of(r, len, start) {
             Step::Skip => {
                 continue;

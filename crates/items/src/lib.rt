@@ -1,13 +1,12 @@
 // Records of patterns and bindings in lent slices, as structs by value.
 #![tactic(auto)]
 
-ghost use Rattle.std.specs.Prelude.{◌≡◌, ◌+◌};
-ghost use Rattle.term_spec.specs.Words.{Lies, record_at};
-ghost use Rattle.match_spec.specs.Pattern.{item_layout, binding_layout};
+ghost use Rattle.std.specs.Prelude.{◌≡◌, refl};
+ghost use Rattle.match_spec.specs.Pattern.{Item as SpecItem, Binding as SpecBinding, item_layout, binding_layout};
 ghost use Rattle.words.specs.Records.{as_term};
-ghost use Rattle.items.specs.Records.{as_item, term_of_item, as_binding};
+ghost use Rattle.items.specs.Records.{as_item, SmallItem, term_of_item, as_binding, SmallBinding};
 
-use words::Term;
+use words::{Record, Term};
 
 // One record of a pattern, its words widened.
 #[derive(Clone, Copy)]
@@ -55,18 +54,72 @@ pub const ITEM_WIDTH: usize = 4;
 
 pub const BINDING_WIDTH: usize = 5;
 
-// Record i of a pattern.
-pub fn get_item(pattern: &[u32], i: usize) -> Item
-    requires { Lies item_layout pattern.now (i + 1) }
-    ensures { as_item result ≡ record_at item_layout pattern.now i }
-{
-    let p = i * ITEM_WIDTH;
-    Item {
-        kind: words::word(pattern, p),
-        a: words::word(pattern, p + 1),
-        b: words::word(pattern, p + 2),
-        c: words::word(pattern, p + 3),
+impl Record for Item {
+    ghost Meant = { SpecItem };
+
+    ghost layout = { item_layout };
+
+    ghost meant = { as_item };
+
+    ghost IsSmall = { SmallItem };
+
+    ghost WIDTH = { 4 };
+
+    const WIDTH: usize = ITEM_WIDTH;
+
+    #[tactic(auto, unfolding(match_spec::specs::Pattern::item_of))]
+    fn read(pattern: &[u32]) -> Item {
+        Item {
+            kind: words::word(pattern, 0),
+            a: words::word(pattern, 1),
+            b: words::word(pattern, 2),
+            c: words::word(pattern, 3),
+        }
     }
+
+    fn write(self, pattern: &mut [u32]) {
+        words::set_word(pattern, 0, self.kind);
+        words::set_word(pattern, 1, self.a);
+        words::set_word(pattern, 2, self.b);
+        words::set_word(pattern, 3, self.c);
+    }
+
+    ghost wide = { refl };
+}
+
+impl Record for Binding {
+    ghost Meant = { SpecBinding };
+
+    ghost layout = { binding_layout };
+
+    ghost meant = { as_binding };
+
+    ghost IsSmall = { SmallBinding };
+
+    ghost WIDTH = { 5 };
+
+    const WIDTH: usize = BINDING_WIDTH;
+
+    #[tactic(auto, unfolding(match_spec::specs::Pattern::binding_of))]
+    fn read(bindings: &[u32]) -> Binding {
+        Binding {
+            kind: words::word(bindings, 0),
+            offset: words::word(bindings, 1),
+            size: words::word(bindings, 2),
+            start: words::word(bindings, 3),
+            len: words::word(bindings, 4),
+        }
+    }
+
+    fn write(self, bindings: &mut [u32]) {
+        words::set_word(bindings, 0, self.kind);
+        words::set_word(bindings, 1, self.offset);
+        words::set_word(bindings, 2, self.size);
+        words::set_word(bindings, 3, self.start);
+        words::set_word(bindings, 4, self.len);
+    }
+
+    ghost wide = { refl };
 }
 
 // A literal of a pattern as a term.
@@ -79,20 +132,5 @@ pub fn literal(t: Item) -> Term
         b: t.b,
         c: t.c,
         d: 0,
-    }
-}
-
-// Binding i.
-pub fn get_binding(bindings: &[u32], i: usize) -> Binding
-    requires { Lies binding_layout bindings.now (i + 1) }
-    ensures { as_binding result ≡ record_at binding_layout bindings.now i }
-{
-    let p = i * BINDING_WIDTH;
-    Binding {
-        kind: words::word(bindings, p),
-        offset: words::word(bindings, p + 1),
-        size: words::word(bindings, p + 2),
-        start: words::word(bindings, p + 3),
-        len: words::word(bindings, p + 4),
     }
 }

@@ -8,6 +8,8 @@ ghost use Rattle.view_spec.specs.Build.{plan, plan_makes};
 ghost use Rattle.nodes.specs.NodeStore.{nodes_in, AnyStore};
 ghost use Rattle.join.specs.Turn.{PieceIn, TurnedIn, grown, Joins};
 
+use words::Node;
+
 // One step of a join, from the top of the left down. Base: the first terms of a node, before the right. Single: the first terms of a node,
 // before the rest. Double: a head of a node's first terms and a further node, the first terms of that head, before the rest.
 #[derive(Clone, Copy)]
@@ -23,21 +25,21 @@ pub fn next_turn(nodes: &[u32], h: usize, node: usize, len: usize) -> Turn
     ensures { TurnedIn nodes.now h node len result }
 {
     let left = nodes::unclamp(nodes, node, len);
-    let n = words::get_node(nodes, left);
+    let n = words::get::<Node>(nodes, left);
     if n.kind != words::CONCAT {
         return Turn::Base(left, len);
     }
     if n.height - 1 <= h {
         return Turn::Base(left, len);
     }
-    let inner_left = words::get_node(nodes, n.a);
-    let inner_right = words::get_node(nodes, n.c);
+    let inner_left = words::get::<Node>(nodes, n.a);
+    let inner_right = words::get::<Node>(nodes, n.c);
     let inner = len - n.b;
     if inner_right.height <= inner_left.height {
         return Turn::Single(n.a, n.b, n.c, inner);
     }
     let middle = nodes::unclamp(nodes, n.c, inner);
-    let m = words::get_node(nodes, middle);
+    let m = words::get::<Node>(nodes, middle);
     if m.kind != words::CONCAT {
         return Turn::Base(left, len);
     }
@@ -83,7 +85,7 @@ pub fn join_build(nodes: &mut [u32], used: usize, right: usize, node: usize, len
         let new = drop used (grown (nodes_in before used) right node len) in
         nodes.new ≡ write node_layout before used new }
 {
-    let r = words::get_node(nodes, right);
+    let r = words::get::<Node>(nodes, right);
     let h = r.height;
     let mut lo = used;
     let mut hi = end;

@@ -7,6 +7,7 @@ ghost use Rattle.steps.specs.State.{entries_in, EntryRoom};
 ghost use Rattle.matcher.specs.Ready.{given_of};
 ghost use Rattle.listing.specs.Match.{CanStart, Started};
 
+use items::Item;
 use matcher::{Goal, Tally, status};
 use steps::State;
 use words::Run;
@@ -191,7 +192,7 @@ fn variables(pattern: &[u32]) -> usize
     let mut count = 0;
     let mut i = 0;
     while i < n {
-        let t = items::get_item(pattern, i);
+        let t = words::get::<Item>(pattern, i);
         if pattern::is_variable(t.kind) {
             count += 1;
             i += 1;

@@ -11,6 +11,7 @@ ghost use Rattle.equality.specs.Memory.{Memory};
 ghost use Rattle.steps.specs.State.{spec_place_of, entries_in, EntryRoom};
 ghost use Rattle.matcher.specs.Ready.{given_of, events_from, Ready, CanTurn, TurnTaken, SlotsReady, Written, Walked};
 
+use items::Item;
 use steps::{State, What};
 
 // What a listing is to bring: how many entries a candidate has, how many slots there are, and whether the head alone is wanted. A limit on
@@ -92,7 +93,7 @@ fn take_turn(
         TurnTaken given p here result.what after result.start result.len
         × Memory names.now terms.now used known.new }
 {
-    let t = items::get_item(pattern, p);
+    let t = words::get::<Item>(pattern, p);
     let x = words::word(numbers, p);
     let last = steps::ends_at(pattern, p + 1);
     if steps::ends_apart(t.kind, x, last, s, binds) {

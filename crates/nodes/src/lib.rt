@@ -73,7 +73,7 @@ fn cons_ok(nodes: &[u32], terms: usize, i: usize, n: Node) -> bool
     if i <= n.c {
         return false;
     }
-    let tail = words::get_node(nodes, n.c);
+    let tail = words::get::<Node>(nodes, n.c);
     if words::CONS < tail.kind {
         return false;
     }
@@ -107,8 +107,8 @@ fn concat_ok(nodes: &[u32], i: usize, n: Node) -> bool
     if i <= n.c {
         return false;
     }
-    let left = words::get_node(nodes, n.a);
-    let right = words::get_node(nodes, n.c);
+    let left = words::get::<Node>(nodes, n.a);
+    let right = words::get::<Node>(nodes, n.c);
     if left.kind == words::NIL {
         return false;
     }
@@ -136,7 +136,7 @@ fn node_ok(nodes: &[u32], terms: usize, i: usize) -> bool
     ensures { let words = nodes.now in
         result ≡ node_rule terms (nodes_in words i) (record_at node_layout words i) }
 {
-    let n = words::get_node(nodes, i);
+    let n = words::get::<Node>(nodes, i);
     if n.kind == words::NIL {
         return nil_ok(i, n);
     }
@@ -175,7 +175,7 @@ pub fn field_ok(nodes: &[u32], used: usize, node: usize, len: usize) -> bool
     if used <= node {
         return false;
     }
-    let n = words::get_node(nodes, node);
+    let n = words::get::<Node>(nodes, node);
     len <= n.reach
 }
 
@@ -196,7 +196,7 @@ pub fn make_cons(nodes: &mut [u32], used: usize, a: usize, b: usize, c: usize)
     ensures { let words = nodes.old in
         nodes.new ≡ write node_layout words used (cons_node (nodes_in words used) a b c ∷ []) }
 {
-    let tail = words::get_node(nodes, c);
+    let tail = words::get::<Node>(nodes, c);
     let n = Node {
         kind: words::CONS,
         a,
@@ -205,7 +205,7 @@ pub fn make_cons(nodes: &mut [u32], used: usize, a: usize, b: usize, c: usize)
         height: 1,
         reach: reach_of(b, tail.reach),
     };
-    words::put_node(nodes, used, n);
+    words::put(nodes, used, n);
 }
 
 // One more node: a Concat of the first b terms of a before c.
@@ -215,8 +215,8 @@ pub fn make_concat(nodes: &mut [u32], used: usize, a: usize, b: usize, c: usize)
     ensures { let words = nodes.old in
         nodes.new ≡ write node_layout words used (concat_node (nodes_in words used) a b c ∷ []) }
 {
-    let left = words::get_node(nodes, a);
-    let right = words::get_node(nodes, c);
+    let left = words::get::<Node>(nodes, a);
+    let right = words::get::<Node>(nodes, c);
     let n = Node {
         kind: words::CONCAT,
         a,
@@ -225,7 +225,7 @@ pub fn make_concat(nodes: &mut [u32], used: usize, a: usize, b: usize, c: usize)
         height: 1 + larger(left.height, right.height),
         reach: reach_of(b, right.reach),
     };
-    words::put_node(nodes, used, n);
+    words::put(nodes, used, n);
 }
 
 // ---- unclamp ----
@@ -238,7 +238,7 @@ pub fn unclamp(nodes: &[u32], node: usize, len: usize) -> usize
 {
     let mut at = node;
     loop {
-        let n = words::get_node(nodes, at);
+        let n = words::get::<Node>(nodes, at);
         if n.kind != words::CONCAT {
             return at;
         }
@@ -264,7 +264,7 @@ pub fn reserve(nodes: &mut [u32], i: usize, a: usize, b: usize, c: usize)
         height: 0,
         reach: 0,
     };
-    words::put_node(nodes, i, n);
+    words::put(nodes, i, n);
 }
 
 // A child of a reserved Concat, where `before` is the node made before it.
@@ -287,7 +287,7 @@ pub fn complete(nodes: &mut [u32], from: usize, end: usize, before: usize) -> us
     let mut at = from;
     let mut last = before;
     while at < end {
-        let n = words::get_node(nodes, at);
+        let n = words::get::<Node>(nodes, at);
         make_concat(nodes, at, child(n.a, last), n.b, child(n.c, last));
         last = at;
         at += 1;

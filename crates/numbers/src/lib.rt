@@ -181,8 +181,8 @@ fn apart_above(names: &[u8], terms: &[u32], numbers: &[u16], c: usize, k: usize)
         × ((used : ℕ) → TermStore text store used → c < k → k < used → Numbers text store used k numbers.now
         → eqb result 0 ≡ equal_at text store used c k) }
 {
-    let t = words::get_term(terms, c);
-    let u = words::get_term(terms, k);
+    let t = words::get::<Term>(terms, c);
+    let u = words::get::<Term>(terms, k);
     if t.kind != u.kind {
         return 1;
     }
@@ -269,7 +269,7 @@ fn number_of(
         × ((used : ℕ) → k < used → tables used k before heads.old earlier.old
         → tables used (k + 1) (set before k result.number) heads.new earlier.new) }
 {
-    let t = words::get_term(terms, k);
+    let t = words::get::<Term>(terms, k);
     let b = bucket_of(names, numbers, marks, base, t);
     let found = find_equal(names, terms, numbers, earlier, k, words::word(heads, b));
     if found.at != 0 {

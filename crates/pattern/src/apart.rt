@@ -6,6 +6,8 @@ ghost use Rattle.numbers.specs.Digest.{prime};
 ghost use Rattle.pattern.specs.Records.{bindings_in, BindingTexts};
 ghost use Rattle.pattern.specs.Apart.{Told, Tells, spec_bucket_of, bucket_in, NameTables, NameBefore, NameNew, Apart, Repeats};
 
+use items::Binding;
+
 // ---- looking up one name ----
 
 // The bucket of a name, by its text's digest at a base. Names that are one have one bucket.
@@ -39,11 +41,11 @@ fn name_entered(
         let words = bindings.now in
         (result.cost ≤ limit) × Told (NameBefore text words k) (NameNew text words k) result.found }
 {
-    let b = items::get_binding(bindings, k);
+    let b = words::get::<Binding>(bindings, k);
     let mut cost = 0;
     let mut at = words::word(heads, bucket);
     while at != 0 {
-        let c = items::get_binding(bindings, at - 1);
+        let c = words::get::<Binding>(bindings, at - 1);
         if crate::same_name(names, b.kind, b.offset, b.size, c.kind, c.offset, c.size) {
             return Looked { found: true, cost };
         }
@@ -93,7 +95,7 @@ fn first_apart_with(
     let mut cost = 0;
     let mut k = 0;
     while k < n {
-        let b = items::get_binding(bindings, k);
+        let b = words::get::<Binding>(bindings, k);
         let bucket = bucket_of(names, way.base, b.offset, b.size);
         let looked = name_entered(names, bindings, heads, earlier, bucket, k);
         if looked.found {
@@ -113,8 +115,9 @@ fn first_apart_with(
     Outcome::NoneRepeats
 }
 
-// Whether no binding has the name of one before it that is among the first 65,536. The tables take 160 KB of stack. It never calls itself; that it
-// could keeps the compiler from copying it, and its stack, into its callers.
+// Whether no binding has the name of one before it that is among the first 65,536. The tables take 160 KB of stack, which
+// callers that never come here do not need.
+#[inline(never)]
 fn first_apart(names: &[u8], bindings: &[u32], way: Way) -> Outcome
     requires { (way.base < prime) × BindingTexts names.now bindings.now (bindings_in bindings.now) }
     ensures { let text = names.now in
@@ -123,15 +126,7 @@ fn first_apart(names: &[u8], bindings: &[u32], way: Way) -> Outcome
 {
     let mut heads = [0u32; numbers::BUCKETS];
     let mut earlier = [0u16; words::LIMIT];
-    let outcome = first_apart_with(names, bindings, way, &mut heads, &mut earlier);
-    if bindings.len() < items::BINDING_WIDTH {
-        return outcome;
-    }
-    let b = items::get_binding(bindings, 0);
-    if names.len() < b.offset {
-        return first_apart(names, bindings, way);
-    }
-    outcome
+    first_apart_with(names, bindings, way, &mut heads, &mut earlier)
 }
 
 // How many bases are tried before any cost is allowed. Names can be chosen for some bases more, but each takes 13 bits of every name: for five of them a

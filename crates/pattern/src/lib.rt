@@ -64,7 +64,7 @@ fn closes(pattern: &[u32], a: usize, i: usize, o: usize) -> bool
     if a != o {
         return false;
     }
-    let t = items::get_item(pattern, o);
+    let t = words::get::<Item>(pattern, o);
     t.a == i
 }
 
@@ -78,7 +78,7 @@ pub fn pattern_ok(names: &[u8], pattern: &[u32]) -> bool
     let mut depth: usize = 0;
     let mut i = 0;
     while i < n {
-        let t = items::get_item(pattern, i);
+        let t = words::get::<Item>(pattern, i);
         if !item_ok(names, t) {
             return false;
         }
@@ -116,7 +116,7 @@ pub fn bindings_inside(bindings: &[u32], terms: usize) -> bool
     let n = bindings.len() / items::BINDING_WIDTH;
     let mut i = 0;
     while i < n {
-        let b = items::get_binding(bindings, i);
+        let b = words::get::<Binding>(bindings, i);
         if terms < b.len {
             return false;
         }
@@ -172,7 +172,7 @@ fn find_binding(
 {
     let mut i = 0;
     while i < count {
-        let b = items::get_binding(bindings, i);
+        let b = words::get::<Binding>(bindings, i);
         if same_name(names, kind, o, n, b.kind, b.offset, b.size) {
             return i;
         }
@@ -198,7 +198,7 @@ fn few_bindings_ok(names: &[u8], bindings: &[u32]) -> bool
     let n = bindings.len() / items::BINDING_WIDTH;
     let mut i = 0;
     while i < n {
-        let b = items::get_binding(bindings, i);
+        let b = words::get::<Binding>(bindings, i);
         if !binding_ok(names, b) {
             return false;
         }
@@ -219,7 +219,7 @@ fn each_binding_ok(names: &[u8], bindings: &[u32]) -> bool
     let n = bindings.len() / items::BINDING_WIDTH;
     let mut i = 0;
     while i < n {
-        let b = items::get_binding(bindings, i);
+        let b = words::get::<Binding>(bindings, i);
         if !binding_ok(names, b) {
             return false;
         }
@@ -251,7 +251,7 @@ fn find_first(names: &[u8], pattern: &[u32], firsts: &[u32], count: usize, t: It
 {
     let mut i = 0;
     while i < count {
-        let u = items::get_item(pattern, words::word(firsts, i));
+        let u = words::get::<Item>(pattern, words::word(firsts, i));
         if same_name(names, t.kind, t.a, t.b, u.kind, u.a, u.b) {
             return i;
         }
@@ -305,7 +305,7 @@ pub fn number_names(names: &[u8], pattern: &[u32], bindings: &[u32], numbers: &m
     let mut new: usize = 0;
     let mut i = 0;
     while i < n {
-        let t = items::get_item(pattern, i);
+        let t = words::get::<Item>(pattern, i);
         if !is_variable(t.kind) {
             words::set_word(numbers, i, 0);
             i += 1;

@@ -166,7 +166,7 @@ fn read_with(
     };
     let mut done = 0;
     while done < n {
-        let here = words::get_node(nodes, at.node);
+        let here = words::get::<Node>(nodes, at.node);
         if here.b <= at.skip {
             at.skip -= here.b;
             at.node = here.c;

@@ -14,6 +14,7 @@ ghost use Rattle.rigid.specs.Fit.{fits_at, run_fits, split_fits, FitIn, fit_goes
 
 use items::Item;
 use steps::State;
+use words::Term;
 
 // What a record of the run does: it does not fit, the run ends before it, it takes so many terms.
 #[derive(Clone, Copy)]
@@ -30,7 +31,7 @@ fn fit_term(names: &[u8], terms: &[u32], t: Item, start: usize) -> bool
     ensures { let terms = terms.entry.now in
         ((used : ℕ) → start < used → result ≡ fits_term names.now (decode term_layout used terms) (as_item t) start) }
 {
-    let u = words::get_term(terms, start);
+    let u = words::get::<Term>(terms, start);
     if t.kind == items::OPEN {
         return u.kind == words::BRACKET;
     }
@@ -140,7 +141,7 @@ pub fn rigid_run_matches(
     let mut start = s.start;
     let mut len = s.len;
     while i < n {
-        let t = items::get_item(pattern, i);
+        let t = words::get::<Item>(pattern, i);
         if 0 < d {
             d = skip(t.kind, d);
             i += 1;
@@ -174,7 +175,7 @@ fn may_begin(terms: &[u32], t: Item, i: usize) -> bool
     requires { Lies term_layout terms.now (i + 1) }
     ensures { result ≡ false → Apart (as_item t) (record_at term_layout terms.now i) }
 {
-    let u = words::get_term(terms, i);
+    let u = words::get::<Term>(terms, i);
     if t.kind == words::CHAR {
         if u.a != t.a {
             return false;
@@ -208,7 +209,7 @@ fn skip_apart(terms: &[u32], pattern: &[u32], p: usize, s: State, j: usize) -> u
     if pattern.len() / items::ITEM_WIDTH <= p {
         return j;
     }
-    let t = items::get_item(pattern, p);
+    let t = words::get::<Item>(pattern, p);
     if items::OPEN < t.kind {
         return j;
     }

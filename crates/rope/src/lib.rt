@@ -20,7 +20,7 @@ ghost use Rattle.rope.specs.Fronts.{Ropes, RopesKnown, PlacesKnown, TellsFronts,
 ghost use Rattle.rope.specs.Copies.{CopiedOut, CopiedAfter};
 
 use equality::Outcome;
-use words::Run;
+use words::{Node, Run};
 
 // What is to be read next: `left` terms of a node after its first `skip`, then the fields on a stack of `depth` fields, the last one first.
 // `fuel` is how many steps down to a run may still be made: a store can be made so that each run takes a long way.
@@ -53,7 +53,7 @@ fn to_run(nodes: &[u32], stack: &mut [u32; STACK_WORDS], at: Piece) -> Piece
             return at;
         }
         at.fuel -= 1;
-        let n = words::get_node(nodes, at.node);
+        let n = words::get::<Node>(nodes, at.node);
         if n.b <= at.skip {
             at.skip -= n.b;
             at.node = n.c;
@@ -85,7 +85,7 @@ fn front(nodes: &[u32], at: Piece) -> Run
     ensures { let words = nodes.now in
         ((used : ℕ) → at.node < used → as_run result ≡ front_of (nodes_in words used) at.node at.skip at.left) }
 {
-    let n = words::get_node(nodes, at.node);
+    let n = words::get::<Node>(nodes, at.node);
     Run {
         start: n.a + at.skip,
         len: nodes::smaller(at.left, n.b - at.skip),
@@ -263,8 +263,8 @@ fn equal_parts(nodes: &[u32], known: &[u16], f: usize, g: usize, from: usize, n:
     true
 }
 
-// The same, the terms being numbered for it. The numbers take 128 KB of stack. It never calls itself; that it could keeps the compiler from copying
-// it, and its stack, into its caller.
+// The same, the terms being numbered for it. The numbers take 128 KB of stack, which callers that never come here do not need.
+#[inline(never)]
 fn equal_rest(
     names: &[u8],
     terms: &[u32],
@@ -285,9 +285,6 @@ fn equal_rest(
 {
     let mut known = [0u16; words::LIMIT];
     numbers::number_terms(names, terms, terms_used, &mut known);
-    if words::LIMIT < terms_used {
-        return equal_rest(names, terms, terms_used, nodes, f, g, from, n);
-    }
     equal_parts(nodes, &known, f, g, from, n)
 }
 
@@ -354,8 +351,9 @@ fn copy_some_out(terms: &[u32], nodes: &[u32], node: usize, len: usize, work: &m
     len
 }
 
-// The terms of a node after its first `from` and before its first `len` become the records after as many others. It never calls itself; that it
-// could keeps the compiler from copying it, and its stack, into its callers.
+// The terms of a node after its first `from` and before its first `len` become the records after as many others. Not copied into its
+// callers, since few of their calls come here and it has much stack.
+#[inline(never)]
 fn copy_rest_out(
     terms: &[u32],
     nodes: &[u32],
@@ -370,9 +368,6 @@ fn copy_rest_out(
         let after = work.new in
         CopiedOut terms.now nodes.now node len from len before after }
 {
-    if len < from {
-        copy_rest_out(terms, nodes, node, from, len, work);
-    }
     let mut list = [0u32; places::PART];
     let mut done = from;
     while done < len {
@@ -436,8 +431,9 @@ fn copy_some_after(
     len
 }
 
-// The terms of a node after its first `from` and before its first `len` become the records after the used terms and as many others. As above, it
-// never calls itself.
+// The terms of a node after its first `from` and before its first `len` become the records after the used terms and as many others. As above, not
+// copied into its callers.
+#[inline(never)]
 fn copy_rest_after(
     terms: &mut [u32],
     terms_used: usize,
@@ -453,9 +449,6 @@ fn copy_rest_after(
         let after = terms.new in
         CopiedAfter nodes.now terms_used node len from len before after }
 {
-    if len < from {
-        copy_rest_after(terms, terms_used, nodes, node, from, len);
-    }
     let mut list = [0u32; places::PART];
     let mut done = from;
     while done < len {

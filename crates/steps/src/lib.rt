@@ -17,7 +17,7 @@ ghost use Rattle.steps.specs.State.{passing, giving, left_of, front_of, spec_pla
 ghost use Rattle.steps.specs.State.{RunReady, InStore, InTerms, Known, Stands, LevelsKept, EndsApart, coded, pattern_in, Fine};
 
 use items::Item;
-use words::Run;
+use words::{Run, Term};
 
 // Where the walk stands: what is left of the innermost level, how many levels are around it, and how many entries are known. The runs of
 // these levels (the outermost first) and entries are in lent words, two to a run: nothing large goes by value.
@@ -86,7 +86,7 @@ pub fn entry(binds: &[u32], x: usize) -> Run
     requires { Lies run_layout binds.now (x + 1) }
     ensures { (n : ℕ) → x < n → as_run result ≡ get_or (entries_in n binds.now) x no_run }
 {
-    words::get_run(binds, x)
+    words::get::<Run>(binds, x)
 }
 
 fn stop(s: State) -> Turned
@@ -119,7 +119,7 @@ fn turn_literal(names: &[u8], terms: &[u32], t: Item, s: State) -> Turned
     if s.len == 0 {
         return stop(s);
     }
-    let u = words::get_term(terms, s.start);
+    let u = words::get::<Term>(terms, s.start);
     if !value::symbol_matches(names, items::literal(t), u) {
         return stop(s);
     }
@@ -139,7 +139,7 @@ fn turn_open(terms: &[u32], s: State, levels: &mut [u32]) -> Turned
     if s.len == 0 {
         return stop(s);
     }
-    let u = words::get_term(terms, s.start);
+    let u = words::get::<Term>(terms, s.start);
     if u.kind != words::BRACKET {
         return stop(s);
     }
@@ -164,7 +164,7 @@ fn turn_close(s: State, levels: &[u32]) -> Turned
     if s.len != 0 {
         return stop(s);
     }
-    let around = words::get_run(levels, s.depth - 1);
+    let around = words::get::<Run>(levels, s.depth - 1);
     next(State {
         start: around.start,
         len: around.len,
@@ -198,7 +198,7 @@ fn turn_single(
     if s.len == 0 {
         return stop(s);
     }
-    let u = words::get_term(terms, s.start);
+    let u = words::get::<Term>(terms, s.start);
     if !kinds::variable_accepts(t.kind - items::S_VARIABLE, u) {
         return stop(s);
     }
@@ -332,6 +332,6 @@ pub fn ends_at(pattern: &[u32], p: usize) -> bool
     if pattern.len() / items::ITEM_WIDTH <= p {
         return true;
     }
-    let t = items::get_item(pattern, p);
+    let t = words::get::<Item>(pattern, p);
     t.kind == items::CLOSE
 }

@@ -122,7 +122,7 @@ fn one_term(terms: &[u32], p: usize) -> Part
     requires { Lies term_layout terms.now (p + 1) }
     ensures { Covers terms.now p 1 result.len result.deep }
 {
-    let t = words::get_term(terms, p);
+    let t = words::get::<Term>(terms, p);
     Part {
         len: 1,
         deep: depth_of(t),
@@ -237,7 +237,7 @@ fn all_ok(names: &[u8], terms: &[u32], used: usize, low: &mut [u8], high: &mut [
 {
     let mut i = 0;
     while i < used {
-        let t = words::get_term(terms, i);
+        let t = words::get::<Term>(terms, i);
         if !term_ok(names, terms, low, high, i, t) {
             return false;
         }

@@ -12,7 +12,7 @@ ghost use Rattle.nodes.specs.NodeStore.{nodes_in, AnyStore, Reaches};
 ghost use Rattle.from_runs.specs.FromRuns.{RunStore};
 ghost use Rattle.view.specs.Check.{as_field, store_of, checked, numbered, answer_of, leaves, grown_by};
 
-use words::refusal;
+use words::{Node, refusal};
 
 // A field: the first len terms of a node.
 #[derive(Clone, Copy)]
@@ -313,7 +313,7 @@ fn joined(nodes: &mut [u32], count: &mut usize, f: Field, g: Field) -> Answer
     }
     let used = *count;
     let right = nodes::unclamp(nodes, g.node, g.len);
-    let r = words::get_node(nodes, right);
+    let r = words::get::<Node>(nodes, right);
     let made = join::join_makes(nodes, r.height, f.node, f.len);
     if !node_room(nodes, used, made) {
         return Answer::Refused(refusal::NODES_FULL);

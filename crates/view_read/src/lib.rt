@@ -14,7 +14,7 @@ ghost use Rattle.view.specs.Check.{as_field, store_of, leaves};
 ghost use Rattle.view_read.specs.Read.{verdict_of, spec_place_of, flat_of, leaves_work, flat_words, settled_of, settled_by};
 
 use view::Field;
-use words::{Run, refusal};
+use words::{Node, Run, refusal};
 
 // ---- comparing ----
 
@@ -95,7 +95,7 @@ fn place_of(nodes: &[u32], f: Field) -> Place
     if f.len == 0 {
         return Place::Stored(Run { start: 0, len: 0 });
     }
-    let n = words::get_node(nodes, f.node);
+    let n = words::get::<Node>(nodes, f.node);
     if n.kind != words::CONS {
         return Place::Scattered;
     }

@@ -34,3 +34,8 @@ pub record SmallNode (n : Node) : Type 0 where
 -- A run of the code, as the specification has it.
 abbrev pub as_run : Run → SpecRun
 as_run r = record { start = r.start; len = r.len }
+
+-- Every field fits a word.
+pub record SmallRun (r : Run) : Type 0 where
+  pub start : r.start < 2 ^ 32
+  pub len : r.len < 2 ^ 32

@@ -1,13 +1,13 @@
-// Records of words in lent slices, as structs by value. `word` and `set_word` alone see words and casts.
+// Records of words in lent slices, as structs by value: `get` and `put` for every kind of record. `word` and `set_word` alone see words and casts.
 #![tactic(auto)]
 
 pub mod refusal;
 
-ghost use Rattle.std.specs.Prelude.{◌≡◌, [], ◌∷◌, ◌+◌, ◌*◌, ◌<◌, ◌≤◌, ◌^◌, length, get_or, set};
-ghost use Rattle.term_spec.specs.Words.{Lies, record_at, write};
-ghost use Rattle.term_spec.specs.Term.{term_layout, run_layout};
-ghost use Rattle.view_spec.specs.Node.{node_layout};
-ghost use Rattle.words.specs.Records.{as_term, Small, as_node, SmallNode, as_run};
+ghost use Rattle.std.specs.Prelude.{◌≡◌, refl, [], ◌∷◌, ℕ, ◌+◌, ◌*◌, ◌<◌, ◌≤◌, ◌^◌, length, get_or, set};
+ghost use Rattle.term_spec.specs.Words.{Layout, Lies, record_at, write};
+ghost use Rattle.term_spec.specs.Term.{Term as SpecTerm, Run as SpecRun, term_layout, run_layout};
+ghost use Rattle.view_spec.specs.Node.{Node as SpecNode, node_layout};
+ghost use Rattle.words.specs.Records.{as_term, Small, as_node, SmallNode, as_run, SmallRun};
 
 // One term, its words widened.
 #[derive(Clone, Copy)]
@@ -93,72 +93,153 @@ pub fn set_word(words: &mut [u32], p: usize, x: usize)
     words[p] = x as u32;
 }
 
-// Term i.
-pub fn get_term(terms: &[u32], i: usize) -> Term
-    requires { Lies term_layout terms.now (i + 1) }
-    ensures { as_term result ≡ record_at term_layout terms.now i }
+// ---- records ----
+
+// A kind of record: how many words it has, and what they mean.
+pub trait Record: Copy {
+    // The specification's record, how it lies in words, and the one that a value of the code is.
+    ghost Meant: { Type 0 };
+
+    ghost layout: { Layout Meant };
+
+    ghost meant: { Self → Meant };
+
+    // Every field fits a word.
+    ghost IsSmall: { Self → Type 0 };
+
+    // How many words it has.
+    ghost WIDTH: { ℕ };
+
+    const WIDTH: usize;
+
+    // The record that its words are.
+    fn read(words: &[u32]) -> Self
+        requires { length words.now ≡ WIDTH }
+        ensures { meant result ≡ layout.read words.now };
+
+    // The words become those of the record.
+    fn write(self, words: &mut [u32])
+        requires { (length words.old ≡ WIDTH) × IsSmall self }
+        ensures { words.new ≡ layout.words (meant self) };
+
+    ghost wide: { layout.width ≡ WIDTH };
+}
+
+// Record i.
+pub fn get<R: Record>(words: &[u32], i: usize) -> R
+    requires { Lies R.layout words.now (i + 1) }
+    ensures { R.meant result ≡ record_at R.layout words.now i }
 {
-    let p = i * TERM_WIDTH;
-    Term {
-        kind: word(terms, p),
-        a: word(terms, p + 1),
-        b: word(terms, p + 2),
-        c: word(terms, p + 3),
-        d: word(terms, p + 4),
+    let p = i * R::WIDTH;
+    R::read(&words[p..p + R::WIDTH])
+}
+
+// r becomes record i.
+pub fn put<R: Record>(words: &mut [u32], i: usize, r: R)
+    requires { (Lies R.layout words.old (i + 1)) × R.IsSmall r }
+    ensures { words.new ≡ write R.layout words.old i (R.meant r ∷ []) }
+{
+    let p = i * R::WIDTH;
+    r.write(&mut words[p..p + R::WIDTH]);
+}
+
+impl Record for Term {
+    ghost Meant = { SpecTerm };
+
+    ghost layout = { term_layout };
+
+    ghost meant = { as_term };
+
+    ghost IsSmall = { Small };
+
+    ghost WIDTH = { 5 };
+
+    const WIDTH: usize = TERM_WIDTH;
+
+    #[tactic(auto, unfolding(term_spec::specs::Term::term_of))]
+    fn read(terms: &[u32]) -> Term {
+        Term {
+            kind: word(terms, 0),
+            a: word(terms, 1),
+            b: word(terms, 2),
+            c: word(terms, 3),
+            d: word(terms, 4),
+        }
     }
-}
 
-// t becomes term i.
-pub fn put_term(terms: &mut [u32], i: usize, t: Term)
-    requires { (Lies term_layout terms.old (i + 1)) × Small t }
-    ensures { terms.new ≡ write term_layout terms.old i (as_term t ∷ []) }
-{
-    let p = i * TERM_WIDTH;
-    set_word(terms, p, t.kind);
-    set_word(terms, p + 1, t.a);
-    set_word(terms, p + 2, t.b);
-    set_word(terms, p + 3, t.c);
-    set_word(terms, p + 4, t.d);
-}
-
-// Node i.
-pub fn get_node(nodes: &[u32], i: usize) -> Node
-    requires { Lies node_layout nodes.now (i + 1) }
-    ensures { as_node result ≡ record_at node_layout nodes.now i }
-{
-    let p = i * NODE_WIDTH;
-    Node {
-        kind: word(nodes, p),
-        a: word(nodes, p + 1),
-        b: word(nodes, p + 2),
-        c: word(nodes, p + 3),
-        height: word(nodes, p + 4),
-        reach: word(nodes, p + 5),
+    fn write(self, terms: &mut [u32]) {
+        set_word(terms, 0, self.kind);
+        set_word(terms, 1, self.a);
+        set_word(terms, 2, self.b);
+        set_word(terms, 3, self.c);
+        set_word(terms, 4, self.d);
     }
+
+    ghost wide = { refl };
 }
 
-// n becomes node i.
-pub fn put_node(nodes: &mut [u32], i: usize, n: Node)
-    requires { (Lies node_layout nodes.old (i + 1)) × SmallNode n }
-    ensures { nodes.new ≡ write node_layout nodes.old i (as_node n ∷ []) }
-{
-    let p = i * NODE_WIDTH;
-    set_word(nodes, p, n.kind);
-    set_word(nodes, p + 1, n.a);
-    set_word(nodes, p + 2, n.b);
-    set_word(nodes, p + 3, n.c);
-    set_word(nodes, p + 4, n.height);
-    set_word(nodes, p + 5, n.reach);
-}
+impl Record for Node {
+    ghost Meant = { SpecNode };
 
-// Run i of a list of runs.
-pub fn get_run(runs: &[u32], i: usize) -> Run
-    requires { Lies run_layout runs.now (i + 1) }
-    ensures { as_run result ≡ record_at run_layout runs.now i }
-{
-    let p = i * RUN_WIDTH;
-    Run {
-        start: word(runs, p),
-        len: word(runs, p + 1),
+    ghost layout = { node_layout };
+
+    ghost meant = { as_node };
+
+    ghost IsSmall = { SmallNode };
+
+    ghost WIDTH = { 6 };
+
+    const WIDTH: usize = NODE_WIDTH;
+
+    #[tactic(auto, unfolding(view_spec::specs::Node::node_of))]
+    fn read(nodes: &[u32]) -> Node {
+        Node {
+            kind: word(nodes, 0),
+            a: word(nodes, 1),
+            b: word(nodes, 2),
+            c: word(nodes, 3),
+            height: word(nodes, 4),
+            reach: word(nodes, 5),
+        }
     }
+
+    fn write(self, nodes: &mut [u32]) {
+        set_word(nodes, 0, self.kind);
+        set_word(nodes, 1, self.a);
+        set_word(nodes, 2, self.b);
+        set_word(nodes, 3, self.c);
+        set_word(nodes, 4, self.height);
+        set_word(nodes, 5, self.reach);
+    }
+
+    ghost wide = { refl };
+}
+
+impl Record for Run {
+    ghost Meant = { SpecRun };
+
+    ghost layout = { run_layout };
+
+    ghost meant = { as_run };
+
+    ghost IsSmall = { SmallRun };
+
+    ghost WIDTH = { 2 };
+
+    const WIDTH: usize = RUN_WIDTH;
+
+    #[tactic(auto, unfolding(term_spec::specs::Term::run_of))]
+    fn read(runs: &[u32]) -> Run {
+        Run {
+            start: word(runs, 0),
+            len: word(runs, 1),
+        }
+    }
+
+    fn write(self, runs: &mut [u32]) {
+        set_word(runs, 0, self.start);
+        set_word(runs, 1, self.len);
+    }
+
+    ghost wide = { refl };
 }

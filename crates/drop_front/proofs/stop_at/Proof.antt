@@ -1,4 +1,5 @@
 -- `stop_at`: wherever the loop stands, dropping what is left from there is dropping `count` from the node; each exit is one law of a valid store.
+use borrow.Author.Rules.{rules}
 use native.Mathlib.Omega.{arith}
 use mathlib.Core.Path.{◌≡◌, refl, ◌∙◌}
 use Prim.Native.Nat.{ℕ, ◌≤◌}
@@ -27,10 +28,12 @@ returns c used store reaches =
     let inv = c.loop-left.invariant in
     stop_on _ _ _ _ _ _ inv.0 (inv.1 used store reaches).1 (stop_stay _ _ store _ _ (omega (arith, inv.0, reaches.low)) c.if-left-eq0.true)
 
-get_node_requires : tie.Need-get_node-n-requires invariant_loop decreases_loop
-get_node_requires c κs =
-    let asked = c.requires in
-    omega (arith, asked.store.store.fits, asked.reaches.low, c.loop-left.invariant.0)
+get_node_requires : tie.Need-get-n-requires invariant_loop decreases_loop
+get_node_requires c κs = (
+  search rules,
+  let asked = c.requires in
+      omega (arith, asked.store.store.fits, asked.reaches.low, c.loop-left.invariant.0),
+)
 
 add_t9 : tie.Need-overflow_add-result invariant_loop decreases_loop
 add_t9 c =
@@ -38,7 +41,7 @@ add_t9 c =
     let inv = c.loop-left.invariant in
     let fits = (inv.1 _ asked.store asked.reaches).0 in
     let low = asked.reaches.low in
-    let t = stop_cut _ _ asked.store _ _ (omega (arith, inv.0, low)) c.get_node-n.ensures fits c.if-left-eq0.false c.if-left-n.true c.if-n-eq-CONS.true in
+    let t = stop_cut _ _ asked.store _ _ (omega (arith, inv.0, low)) c.get-n.ensures fits c.if-left-eq0.false c.if-left-n.true c.if-n-eq-CONS.true in
     omega (arith, t.0, c.if-left-n.true)
 
 sub_t10 : tie.Need-overflow_sub-result invariant_loop decreases_loop
@@ -48,7 +51,7 @@ returns_2 : tie.Need-returns-then-n-eq-CONS invariant_loop decreases_loop
 returns_2 c used store reaches =
     let inv = c.loop-left.invariant in
     let (fits, same) = inv.1 used store reaches in
-    let t = stop_cut _ _ store _ _ (omega (arith, inv.0, reaches.low)) c.get_node-n.ensures fits c.if-left-eq0.false c.if-left-n.true c.if-n-eq-CONS.true in
+    let t = stop_cut _ _ store _ _ (omega (arith, inv.0, reaches.low)) c.get-n.ensures fits c.if-left-eq0.false c.if-left-n.true c.if-n-eq-CONS.true in
     stop_on _ _ _ _ _ _ inv.0 same t.1
 
 sub_t11 : tie.Need-overflow_sub-result-then-left-n invariant_loop decreases_loop
@@ -58,19 +61,19 @@ returns_3 : tie.Need-returns-then-left-n invariant_loop decreases_loop
 returns_3 c used store reaches =
     let inv = c.loop-left.invariant in
     let (fits, same) = inv.1 used store reaches in
-    let t = stop_under _ _ store _ _ (omega (arith, inv.0, reaches.low)) c.get_node-n.ensures fits c.if-left-eq0.false c.if-left-n.true c.if-n-eq-CONS.false in
+    let t = stop_under _ _ store _ _ (omega (arith, inv.0, reaches.low)) c.get-n.ensures fits c.if-left-eq0.false c.if-left-n.true c.if-n-eq-CONS.false in
     stop_on _ _ _ _ _ _ inv.0 same t
 
 -- the step to the right
 onward : (c : tie.After-struct_known-in-loop-left-1 invariant_loop decreases_loop) {used : ℕ}
     → let a = c.args in
-    let n = as_node c.get_node-n.result in
+    let n = as_node c.get-n.result in
     AnyStore a.nodes.now used → Reaches a.nodes.now used a.node a.count
     → Onward (nodes_in a.nodes.now used) c.loop-left.at c.loop-left.left n.b n.c
 onward c store reaches =
     let inv = c.loop-left.invariant in
     let fits = (inv.1 _ store reaches).0 in
-    step_right _ _ store _ _ (omega (arith, inv.0, reaches.low)) c.get_node-n.ensures fits c.if-left-eq0.false c.if-left-n.false
+    step_right _ _ store _ _ (omega (arith, inv.0, reaches.low)) c.get-n.ensures fits c.if-left-eq0.false c.if-left-n.false
 
 loop_less : tie.Need-loop-left-smaller invariant_loop decreases_loop
 loop_less c = let asked = c.requires in (onward c asked.store asked.reaches).low

@@ -11,11 +11,11 @@ use Rattle.equality.proofs.apart_at_sight.Statement.{statement}
 use Rattle.equality.proofs.apart_at_sight.Tie as tie
 
 -- the two terms, once they are read
-two : (c : tie.After-get_term-u) {names : List ℕ} {used : ℕ} →
+two : (c : tie.After-get-u) {names : List ℕ} {used : ℕ} →
     let given = c.args in
     TermsIn names given.terms.now given.i given.j used
-    → Two names given.terms.now given.i given.j (as_term c.get_term-t.result) (as_term c.get_term-u.result) used
-two c lies = record { inside = lies; left = c.get_term-t.ensures; right = c.get_term-u.ensures }
+    → Two names given.terms.now given.i given.j (as_term c.get-t.result) (as_term c.get-u.result) used
+two c lies = record { inside = lies; left = c.get-t.ensures; right = c.get-u.ensures }
 
 returns : tie.Need-returns-then-t-u
 returns c names used lies told = sym (two_differ (two c.before.before.before lies) c.if-t-u.true)

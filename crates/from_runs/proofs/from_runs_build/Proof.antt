@@ -19,8 +19,8 @@ loop_holds c = going_start _ _ _ c.requires
 sub_i : tie.Need-overflow_sub-i invariant_loop decreases_loop
 sub_i c = omega (arith, c.loop-i-test.true)
 
-get_run_requires : tie.Need-get_run-r-requires invariant_loop decreases_loop
-get_run_requires c κs = omega (arith, c.loop-i-test.true, c.loop-i.invariant.within)
+get_run_requires : tie.Need-get-r-requires invariant_loop decreases_loop
+get_run_requires c κs = (search rules, omega (arith, c.loop-i-test.true, c.loop-i.invariant.within))
 
 -- ---- an empty run ----
 
@@ -30,18 +30,18 @@ loop_less c = omega (arith, c.loop-i-test.true)
 loop_again : tie.Need-loop-i-preserved-in-Skip invariant_loop decreases_loop
 loop_again c =
     let s = stepped_as _ _ _ c.in-Skip.is c.step_of.ensures in
-    going_skip _ _ _ c.requires _ _ _ _ _ c.loop-i.invariant c.loop-i-test.true c.get_run-r.ensures s
+    going_skip _ _ _ c.requires _ _ _ _ _ c.loop-i.invariant c.loop-i-test.true c.get-r.ensures s
 
 -- ---- a run that is fused ----
 
 -- the loop after it
 fused : (c : tie.After-struct_known-1 invariant_loop decreases_loop)
     → let a = c.args in
-    let r = c.get_run-r.result in
+    let r = c.get-r.result in
     Going a.nodes.now a.used a.runs.now c.loop-i.nodes (c.loop-i.i - 1) c.loop-i.at r.start (c.loop-i.len + r.len)
 fused c =
     let s = stepped_as _ _ _ c.in-Fuse.is c.step_of.ensures in
-    going_fuse _ _ _ c.requires _ _ _ _ _ c.loop-i.invariant c.loop-i-test.true c.get_run-r.ensures s
+    going_fuse _ _ _ c.requires _ _ _ _ _ c.loop-i.invariant c.loop-i-test.true c.get-r.ensures s
 
 add_len : tie.Need-overflow_add-len invariant_loop decreases_loop
 add_len c =
@@ -62,7 +62,7 @@ loop_less_3 c = omega (arith, c.loop-i-test.true)
 loop_again_3 : tie.Need-loop-i-preserved invariant_loop decreases_loop
 loop_again_3 c =
     let s = stepped_as _ _ _ c.in-Part.is c.step_of.ensures in
-    going_part _ _ _ c.requires _ _ _ _ _ c.loop-i.invariant c.loop-i-test.true c.get_run-r.ensures s c.close-at.ensures
+    going_part _ _ _ c.requires _ _ _ _ _ c.loop-i.invariant c.loop-i-test.true c.get-r.ensures s c.close-at.ensures
 
 -- ---- after the loop ----
 

@@ -18,8 +18,8 @@ loop_holds c = count-start _
 sub_i : tie.Need-overflow_sub-i invariant_loop decreases_loop
 sub_i c = omega (arith, c.loop-i-test.true)
 
-get_run_requires : tie.Need-get_run-r-requires invariant_loop decreases_loop
-get_run_requires c κs = omega (arith, c.loop-i-test.true, c.loop-i.invariant.within)
+get_run_requires : tie.Need-get-r-requires invariant_loop decreases_loop
+get_run_requires c κs = (search rules, omega (arith, c.loop-i-test.true, c.loop-i.invariant.within))
 
 loop_less : tie.Need-loop-i-smaller-in-Skip invariant_loop decreases_loop
 loop_less c = omega (arith, c.loop-i-test.true)
@@ -27,7 +27,7 @@ loop_less c = omega (arith, c.loop-i-test.true)
 loop_again : tie.Need-loop-i-preserved-in-Skip invariant_loop decreases_loop
 loop_again c =
     let s = stepped_as _ _ _ c.in-Skip.is c.step_of.ensures in
-    count_skip _ _ _ _ c.loop-i.invariant c.loop-i-test.true c.get_run-r.ensures s
+    count_skip _ _ _ _ c.loop-i.invariant c.loop-i-test.true c.get-r.ensures s
 
 loop_less_2 : tie.Need-loop-i-smaller-in-Fuse invariant_loop decreases_loop
 loop_less_2 c = omega (arith, c.loop-i-test.true)
@@ -35,7 +35,7 @@ loop_less_2 c = omega (arith, c.loop-i-test.true)
 loop_again_2 : tie.Need-loop-i-preserved-in-Fuse invariant_loop decreases_loop
 loop_again_2 c =
     let s = stepped_as _ _ _ c.in-Fuse.is c.step_of.ensures in
-    count-fuse _ _ _ _ c.loop-i.invariant c.loop-i-test.true c.get_run-r.ensures s
+    count-fuse _ _ _ _ c.loop-i.invariant c.loop-i-test.true c.get-r.ensures s
 
 add_made : tie.Need-overflow_add-made invariant_loop decreases_loop
 add_made c = omega (arith, c.loop-i-test.true, c.loop-i.invariant.within)
@@ -46,7 +46,7 @@ loop_less_3 c = omega (arith, c.loop-i-test.true)
 loop_again_3 : tie.Need-loop-i-preserved invariant_loop decreases_loop
 loop_again_3 c =
     let s = stepped_as _ _ _ c.in-Part.is c.step_of.ensures in
-    count-part _ _ _ _ c.loop-i.invariant c.loop-i-test.true c.get_run-r.ensures s
+    count-part _ _ _ _ c.loop-i.invariant c.loop-i-test.true c.get-r.ensures s
 
 returns : tie.Need-returns invariant_loop decreases_loop
 returns c = count_end _ _ _ _ c.loop-i.invariant c.loop-i-test.false

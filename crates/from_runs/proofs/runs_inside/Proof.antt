@@ -21,16 +21,16 @@ loop_holds c = (search rules, refl)
 
 returns : tie.Need-returns-then-terms-r invariant_loop decreases_loop
 returns c =
-    inside_not _ _ _ c.loop-i-test.true c.get_run-r.ensures c.loop-i.invariant.1 (omega (arith, c.if-terms-r.true))
+    inside_not _ _ _ c.loop-i-test.true c.get-r.ensures c.loop-i.invariant.1 (omega (arith, c.if-terms-r.true))
 
 returns_2 : tie.Need-returns-then-terms-r-2 invariant_loop decreases_loop
 returns_2 c =
-    inside_not _ _ _ c.loop-i-test.true c.get_run-r.ensures c.loop-i.invariant.1 (omega (arith, c.if-terms-r.false, c.if-terms-r-2.true))
+    inside_not _ _ _ c.loop-i-test.true c.get-r.ensures c.loop-i.invariant.1 (omega (arith, c.if-terms-r.false, c.if-terms-r-2.true))
 
 loop_again : tie.Need-loop-i-preserved invariant_loop decreases_loop
 loop_again c = (
   search rules,
-  inside_next _ _ _ c.loop-i-test.true c.get_run-r.ensures c.loop-i.invariant.1 (omega (arith, c.if-terms-r.false, c.if-terms-r-2.false)),
+  inside_next _ _ _ c.loop-i-test.true c.get-r.ensures c.loop-i.invariant.1 (omega (arith, c.if-terms-r.false, c.if-terms-r-2.false)),
 )
 
 returns_3 : tie.Need-returns invariant_loop decreases_loop

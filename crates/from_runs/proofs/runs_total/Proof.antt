@@ -22,10 +22,10 @@ loop_holds c = (search rules, total-start _)
 
 add-sum : tie.Need-overflow_add-sum invariant_loop decreases_loop
 add-sum c =
-    omega (arith, total_here _ _ c.loop-i-test.true c.get_run-r.ensures c.loop-i.invariant.1, total_low _ _ c.requires.0.few_terms c.requires.1 c.requires.0.rule)
+    omega (arith, total_here _ _ c.loop-i-test.true c.get-r.ensures c.loop-i.invariant.1, total_low _ _ c.requires.0.few_terms c.requires.1 c.requires.0.rule)
 
 loop_again : tie.Need-loop-i-preserved invariant_loop decreases_loop
-loop_again c = (search rules, total_next _ _ c.loop-i-test.true c.get_run-r.ensures c.loop-i.invariant.1)
+loop_again c = (search rules, total_next _ _ c.loop-i-test.true c.get-r.ensures c.loop-i.invariant.1)
 
 returns : tie.Need-returns invariant_loop decreases_loop
 returns c = total-all _ c.loop-i.i (omega (arith, c.loop-i-test.false, c.loop-i.invariant.0)) c.loop-i.invariant.1

@@ -15,11 +15,11 @@ invariant_loop nodes₀ used right node len end h lo₀ hi₀ at₀ n₀ nodes l
 abbrev decreases_loop : tie.decreases-loop-l
 decreases_loop nodes₀ used right node len end h lo₀ hi₀ at₀ n₀ nodes lo hi at n = at
 
-get_node_requires : tie.Need-get_node-r-requires invariant_loop decreases_loop
-get_node_requires c κs = omega (arith, c.requires.0.store.fits, c.requires.1.1.low)
+get_node_requires : tie.Need-get-r-requires invariant_loop decreases_loop
+get_node_requires c κs = (search rules, omega (arith, c.requires.0.store.fits, c.requires.1.1.low))
 
 loop_holds : tie.Need-loop-l-init invariant_loop decreases_loop
-loop_holds c = let asked = c.requires in down_start _ _ _ _ _ _ c.get_node-r.ensures asked.0 asked.1.0 asked.1.1
+loop_holds c = let asked = c.requires in down_start _ _ _ _ _ _ c.get-r.ensures asked.0 asked.1.0 asked.1.1
 
 next_turn_requires : tie.Need-next_turn-requires invariant_loop decreases_loop
 next_turn_requires c κs = let d = c.loop-l.invariant in record { used = _; store = down_store d; piece = rw d.kept.front d.piece }

@@ -10,16 +10,16 @@ use Rattle.matcher.proofs.take_turn.Statement.{statement}
 use Rattle.matcher.proofs.take_turn.Tie as tie
 
 -- where the function begins
-abbrev begin : tie.After-get_item-t → tie.Start
+abbrev begin : tie.After-get-t → tie.Start
 begin c = c.before.before.before.before.before.before.before.before
 
 -- the two words of the level lie within its words
 within : (c : tie.After-ends_at-last) → let s = (begin c.before.before).args in 2 * s.s.depth + 2 ≤ length s.levels.now
 within c = depth_room (begin c.before.before).requires.0.ready
 
-get_item_requires : tie.Need-get_item-t-requires
+get_item_requires : tie.Need-get-t-requires
 unfolding count
-get_item_requires c κs = omega (arith, c.requires.0.there)
+get_item_requires c κs = (search rules, omega (arith, c.requires.0.there))
 
 word_requires : tie.Need-word-x-requires
 word_requires c κs = number_there (begin c).requires.0.ready (begin c).requires.0.there
@@ -38,7 +38,7 @@ returns c =
     let start = (begin at_item.before).requires.0 in
     let number = at-end.word-x.ensures in
     let apart = c.ends_apart.ensures c.if-ends_apart.true in
-    (apart-taken _ _ _ start.there at_item.get_item-t.ensures number start.ready apart (at-end.ends_at-last.ensures _ _), (begin at_item.before).requires.1)
+    (apart-taken _ _ _ start.there at_item.get-t.ensures number start.ready apart (at-end.ends_at-last.ensures _ _), (begin at_item.before).requires.1)
 
 mul_start : tie.Need-overflow_mul-start
 mul_start c = omega (arith, within c.before.before)
@@ -67,7 +67,7 @@ turn_requires c κs =
     let at_item = at-word in
     let start = (begin at_item.before).requires.0 in
     let y = start.ready in
-    let item = at_item.get_item-t.ensures in
+    let item = at_item.get-t.ensures in
     let number = at-word.word-x.ensures in
     ((y.store, y.few, ready_stands y, (begin at_item.before).requires.1), (ready_item _ _ _ start.there item number y, ready_fine _ _ _ start.there item number y))
 
@@ -78,7 +78,7 @@ returns_2 c =
     let at_item = at-end.before in
     let turned = at_turn.turn-turned.ensures in
     let there = (begin at_item.before).requires.0.there in
-    (turn-taken _ _ _ there at_item.get_item-t.ensures at-end.word-x.ensures (at-end.ends_at-last.ensures _ _) _ _ turned.0 turned.1 turned.2 refl refl, turned.3)
+    (turn-taken _ _ _ there at_item.get-t.ensures at-end.word-x.ensures (at-end.ends_at-last.ensures _ _) _ _ turned.0 turned.1 turned.2 refl refl, turned.3)
 
 pub take_turn_spec : {M : Type 1} → statement M
 take_turn_spec =

@@ -16,12 +16,12 @@ decreases_loop nodes₀ from end before at₀ last₀ nodes at last = end - at
 loop_holds : tie.Need-loop-at-init invariant_loop decreases_loop
 loop_holds c = up_start _ _ _ _ c.requires
 
-get_node_requires : tie.Need-get_node-n-requires invariant_loop decreases_loop
-get_node_requires c κs = omega (arith, c.loop-at.invariant.room, c.loop-at-test.true)
+get_node_requires : tie.Need-get-n-requires invariant_loop decreases_loop
+get_node_requires c κs = (search rules, omega (arith, c.loop-at.invariant.room, c.loop-at-test.true))
 
 make_concat_requires : tie.Need-make_concat-requires invariant_loop decreases_loop
 make_concat_requires c κs =
-    let r = up_ready c.loop-at.invariant c.loop-at-test.true c.get_node-n.ensures c.child.ensures c.child-in-loop-at.ensures in
+    let r = up_ready c.loop-at.invariant c.loop-at-test.true c.get-n.ensures c.child.ensures c.child-in-loop-at.ensures in
     (r.store, (r.room, r.left, r.size, r.right))
 
 add_at : tie.Need-overflow_add-at invariant_loop decreases_loop
@@ -32,7 +32,7 @@ loop_less c = omega (arith, c.loop-at-test.true)
 
 loop_again : tie.Need-loop-at-preserved invariant_loop decreases_loop
 loop_again c =
-    up_next c.loop-at.invariant c.loop-at-test.true c.get_node-n.ensures c.child.ensures c.child-in-loop-at.ensures
+    up_next c.loop-at.invariant c.loop-at-test.true c.get-n.ensures c.child.ensures c.child-in-loop-at.ensures
     c.make_concat.ensures
 
 same_length : tie.Need-shape_of-nodes invariant_loop decreases_loop

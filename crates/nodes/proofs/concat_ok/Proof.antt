@@ -16,15 +16,15 @@ returns_2 : tie.Need-returns-then-i-n-2
 returns_2 c = concat-refused _ _ _ (λ f. omega arith)
 
 -- the two nodes read, in the store
-left : (read : tie.After-get_node-right)
+left : (read : tie.After-get-right)
     → let s = read.args in
-    as_node read.get_node-left.result ≡ node_at (nodes_in s.nodes.now s.i) s.n.a
-left read = below_at _ _ _ read.get_node-left.ensures (search rules)
+    as_node read.get-left.result ≡ node_at (nodes_in s.nodes.now s.i) s.n.a
+left read = below_at _ _ _ read.get-left.ensures (search rules)
 
-right : (read : tie.After-get_node-right)
+right : (read : tie.After-get-right)
     → let s = read.args in
-    as_node read.get_node-right.result ≡ node_at (nodes_in s.nodes.now s.i) s.n.c
-right read = below_at _ _ _ read.get_node-right.ensures (search rules)
+    as_node read.get-right.result ≡ node_at (nodes_in s.nodes.now s.i) s.n.c
+right read = below_at _ _ _ read.get-right.ensures (search rules)
 
 returns_3 : tie.Need-returns-then-left-eq-NIL
 returns_3 c = concat-refused _ _ _ (λ f. omega (arith, ap (λ (n : Node). n.kind) (left c.before.before)))

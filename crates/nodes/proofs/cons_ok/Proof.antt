@@ -22,10 +22,10 @@ returns_4 : tie.Need-returns-then-i-n
 returns_4 c = cons-refused _ _ _ _ (λ f. omega arith)
 
 -- the tail, in the store
-tail : (g : tie.After-get_node-tail)
+tail : (g : tie.After-get-tail)
     → let s = g.args in
-    as_node g.get_node-tail.result ≡ node_at (nodes_in s.nodes.now s.i) s.n.c
-tail g = below_at _ _ _ g.get_node-tail.ensures (search rules)
+    as_node g.get-tail.result ≡ node_at (nodes_in s.nodes.now s.i) s.n.c
+tail g = below_at _ _ _ g.get-tail.ensures (search rules)
 
 returns_5 : tie.Need-returns-then-tail-gt-CONS
 returns_5 c = cons-refused _ _ _ _ (λ f. omega (arith, ap (λ (n : Node). n.kind) (tail c.before.before)))

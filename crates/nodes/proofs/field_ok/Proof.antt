@@ -8,7 +8,7 @@ returns : tie.Need-returns-then-used-node
 returns c = field_out _ _ _ _ (search rules)
 
 returns_2 : tie.Need-returns
-returns_2 c = field_in _ _ _ _ c.if-used-node.false c.get_node-n.ensures
+returns_2 c = field_in _ _ _ _ c.if-used-node.false c.get-n.ensures
 
 pub field_ok_spec : {M : Type 1} → statement M
 field_ok_spec = tie.close (tie.spec returns (λ c κs. search rules) returns_2)

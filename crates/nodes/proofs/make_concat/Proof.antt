@@ -7,17 +7,17 @@ use Rattle.nodes.proofs.make_concat.Statement.{statement}
 use Rattle.nodes.proofs.make_concat.Tie as tie
 
 -- the two nodes read, in the store
-left : (read : tie.After-get_node-right)
+left : (read : tie.After-get-right)
     → let a = read.args in
-    Known a.nodes.now a.used a.a (as_node read.get_node-left.result)
+    Known a.nodes.now a.used a.a (as_node read.get-left.result)
 left read =
-    known _ _ _ read.requires.0.store _ (search rules) read.get_node-left.ensures
+    known _ _ _ read.requires.0.store _ (search rules) read.get-left.ensures
 
-right : (read : tie.After-get_node-right)
+right : (read : tie.After-get-right)
     → let a = read.args in
-    Known a.nodes.now a.used a.c (as_node read.get_node-right.result)
+    Known a.nodes.now a.used a.c (as_node read.get-right.result)
 right read =
-    known _ _ _ read.requires.0.store _ (search rules) read.get_node-right.ensures
+    known _ _ _ read.requires.0.store _ (search rules) read.get-right.ensures
 
 add_t14 : tie.Need-overflow_add-n
 add_t14 c = let l = left c.before in let r = right c.before in omega arith
@@ -25,8 +25,8 @@ add_t14 c = let l = left c.before in let r = right c.before in omega arith
 reach_of_requires : tie.Need-reach_of-requires
 reach_of_requires c κs = let r = right c.before in omega arith
 
-put_node_requires : tie.Need-put_node-requires
-put_node_requires c κs = let l = left c.before.before.before in let r = right c.before.before.before in search rules
+put_node_requires : tie.Need-put-requires
+put_node_requires c κs = (search rules, let l = left c.before.before.before in let r = right c.before.before.before in search rules)
 
 returns : tie.Need-returns
 returns c =
@@ -34,7 +34,7 @@ returns c =
     let reach = put.before in
     let height = reach.before in
     let read = height.before in
-    concat_made _ _ _ _ _ (left read.before.before) (right read.before.before) height.larger.ensures reach.reach_of.ensures put.put_node.ensures
+    concat_made _ _ _ _ _ (left read.before.before) (right read.before.before) height.larger.ensures reach.reach_of.ensures put.put.ensures
 
 pub make_concat_spec : {M : Type 1} → statement M
 make_concat_spec =

@@ -19,33 +19,33 @@ decreases_loop nodes node len at₀ at = at
 loop_holds : tie.Need-loop-n-init invariant_loop decreases_loop
 loop_holds c = (search rules, λ used store low. refl)
 
-get_node_requires : tie.Need-get_node-n-requires invariant_loop decreases_loop
-get_node_requires c κs = let asked = c.requires in omega (arith, asked.store.store.fits, asked.low, c.loop-n.invariant.0)
+get_node_requires : tie.Need-get-n-requires invariant_loop decreases_loop
+get_node_requires c κs = let asked = c.requires in (search rules, omega (arith, asked.store.store.fits, asked.low, c.loop-n.invariant.0))
 
 returns : tie.Need-returns-then-n-ne-CONCAT invariant_loop decreases_loop
 returns c =
     let inv = c.loop-n.invariant in
-    (inv.0, λ used store low. sym (unclamp_here _ _ _ store.store _ _ (omega (arith, inv.0)) c.get_node-n.ensures c.if-n-ne-CONCAT.true) ∙ inv.1 used store low)
+    (inv.0, λ used store low. sym (unclamp_here _ _ _ store.store _ _ (omega (arith, inv.0)) c.get-n.ensures c.if-n-ne-CONCAT.true) ∙ inv.1 used store low)
 
 returns_2 : tie.Need-returns-then-n-len invariant_loop decreases_loop
 returns_2 c =
     let inv = c.loop-n.invariant in (
       inv.0,
       λ used store low.
-          sym (unclamp-short _ _ _ store.store _ _ (omega (arith, inv.0)) c.get_node-n.ensures c.if-n-ne-CONCAT.false c.if-n-len.true) ∙ inv.1 used store low,
+          sym (unclamp-short _ _ _ store.store _ _ (omega (arith, inv.0)) c.get-n.ensures c.if-n-ne-CONCAT.false c.if-n-len.true) ∙ inv.1 used store low,
     )
 
 loop_less : tie.Need-loop-n-smaller invariant_loop decreases_loop
 loop_less c =
     let asked = c.requires in
-    (unclamp-left _ _ _ asked.store.store _ _ (omega (arith, asked.low, c.loop-n.invariant.0)) c.get_node-n.ensures c.if-n-ne-CONCAT.false c.if-n-len.false).0
+    (unclamp-left _ _ _ asked.store.store _ _ (omega (arith, asked.low, c.loop-n.invariant.0)) c.get-n.ensures c.if-n-ne-CONCAT.false c.if-n-len.false).0
 
 loop_again : tie.Need-loop-n-preserved invariant_loop decreases_loop
 loop_again c =
     let inv = c.loop-n.invariant in (
       omega (arith, inv.0, loop_less c),
       λ used store low.
-          sym (unclamp-left _ _ _ store.store _ _ (omega (arith, inv.0)) c.get_node-n.ensures c.if-n-ne-CONCAT.false c.if-n-len.false).1 ∙ inv.1 used store low,
+          sym (unclamp-left _ _ _ store.store _ _ (omega (arith, inv.0)) c.get-n.ensures c.if-n-ne-CONCAT.false c.if-n-len.false).1 ∙ inv.1 used store low,
     )
 
 pub unclamp_spec : {M : Type 1} → statement M

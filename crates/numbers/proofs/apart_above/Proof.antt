@@ -11,8 +11,8 @@ returns : tie.Need-returns-then-t-u
 returns c = (
   omega arith,
   λ used store lt inside known.
-      at_differ _ _ used store _ _ (as_term c.get_term-t.result) (as_term c.get_term-u.result) (omega arith) inside
-      c.get_term-t.ensures c.get_term-u.ensures c.if-t-u.true,
+      at_differ _ _ used store _ _ (as_term c.get-t.result) (as_term c.get-u.result) (omega arith) inside
+      c.get-t.ensures c.get-u.ensures c.if-t-u.true,
 )
 
 runs_apart_requires : tie.Need-runs_apart-requires
@@ -20,8 +20,8 @@ runs_apart_requires c κs =
     let (used, asked) = c.requires in
     let (store, lt, inside, few, known) = asked in
     let bracket = c.if-t-eq-BRACKET.true in
-    let first = contents-below _ _ used store _ _ (omega arith) c.get_term-t.ensures bracket in
-    let second = contents-below _ _ used store _ _ inside c.get_term-u.ensures (sym c.if-t-u.false ∙ bracket) in
+    let first = contents-below _ _ used store _ _ (omega arith) c.get-t.ensures bracket in
+    let second = contents-below _ _ used store _ _ inside c.get-u.ensures (sym c.if-t-u.false ∙ bracket) in
     let room = known.room in
     (omega arith, omega arith)
 
@@ -31,22 +31,22 @@ returns_2 c =
     let (store, lt, inside, few, known) = asked in
     let bracket = c.if-t-eq-BRACKET.true in
     let same = c.if-t-u.false in
-    let first = contents-below _ _ used store _ _ (omega arith) c.get_term-t.ensures bracket in (
+    let first = contents-below _ _ used store _ _ (omega arith) c.get-t.ensures bracket in (
       omega (arith, c.runs_apart.ensures.0),
       λ used store lt inside known.
-          let first = contents-below _ _ used store _ _ (omega arith) c.get_term-t.ensures bracket in
-          let second = contents-below _ _ used store _ _ inside c.get_term-u.ensures (sym same ∙ bracket) in
+          let first = contents-below _ _ used store _ _ (omega arith) c.get-t.ensures bracket in
+          let second = contents-below _ _ used store _ _ inside c.get-u.ensures (sym same ∙ bracket) in
           c.runs_apart.ensures.1 _ _ used _ known (omega arith) second (omega arith)
-          ∙ at_brackets _ _ used store _ _ (as_term c.get_term-t.result) (as_term c.get_term-u.result) (omega arith) inside
-          c.get_term-t.ensures c.get_term-u.ensures bracket same,
+          ∙ at_brackets _ _ used store _ _ (as_term c.get-t.result) (as_term c.get-u.result) (omega arith) inside
+          c.get-t.ensures c.get-u.ensures bracket same,
     )
 
 equal_symbols_requires : tie.Need-equal_symbols-requires
 equal_symbols_requires c κs =
     let (used, asked) = c.requires in
     let (store, lt, inside, few, known) = asked in (
-      texts_at _ _ used store _ _ (as_term c.get_term-t.result) (as_term c.get_term-u.result) (omega arith) inside
-          c.get_term-t.ensures c.get_term-u.ensures,
+      texts_at _ _ used store _ _ (as_term c.get-t.result) (as_term c.get-u.result) (omega arith) inside
+          c.get-t.ensures c.get-u.ensures,
       (c.if-t-u.false, c.if-t-eq-BRACKET.false),
     )
 
@@ -55,8 +55,8 @@ returns_3 c = (
   omega arith,
   λ used store lt inside known.
       sym c.if-equal_symbols.true ∙ c.equal_symbols.ensures
-      ∙ at_symbols _ _ used store _ _ (as_term c.get_term-t.result) (as_term c.get_term-u.result) (omega arith) inside
-      c.get_term-t.ensures c.get_term-u.ensures c.if-t-u.false c.if-t-eq-BRACKET.false,
+      ∙ at_symbols _ _ used store _ _ (as_term c.get-t.result) (as_term c.get-u.result) (omega arith) inside
+      c.get-t.ensures c.get-u.ensures c.if-t-u.false c.if-t-eq-BRACKET.false,
 )
 
 returns_4 : tie.Need-returns
@@ -64,8 +64,8 @@ returns_4 c = (
   omega arith,
   λ used store lt inside known.
       sym c.if-equal_symbols.false ∙ c.equal_symbols.ensures
-      ∙ at_symbols _ _ used store _ _ (as_term c.get_term-t.result) (as_term c.get_term-u.result) (omega arith) inside
-      c.get_term-t.ensures c.get_term-u.ensures c.if-t-u.false c.if-t-eq-BRACKET.false,
+      ∙ at_symbols _ _ used store _ _ (as_term c.get-t.result) (as_term c.get-u.result) (omega arith) inside
+      c.get-t.ensures c.get-u.ensures c.if-t-u.false c.if-t-eq-BRACKET.false,
 )
 
 pub apart_above_spec : {M : Type 1} → statement M

@@ -24,16 +24,16 @@ loop_holds c = (search rules, refl)
 
 returns : tie.Need-returns-then-terms-b invariant_loop decreases_loop
 returns c =
-    inside_not _ _ _ c.loop-i-test.true c.get_binding-b.ensures c.loop-i.invariant.1 (omega (arith, c.if-terms-b.true))
+    inside_not _ _ _ c.loop-i-test.true c.get-b.ensures c.loop-i.invariant.1 (omega (arith, c.if-terms-b.true))
 
 returns_2 : tie.Need-returns-then-terms-b-2 invariant_loop decreases_loop
 returns_2 c =
-    inside_not _ _ _ c.loop-i-test.true c.get_binding-b.ensures c.loop-i.invariant.1 (omega (arith, c.if-terms-b.false, c.if-terms-b-2.true))
+    inside_not _ _ _ c.loop-i-test.true c.get-b.ensures c.loop-i.invariant.1 (omega (arith, c.if-terms-b.false, c.if-terms-b-2.true))
 
 loop_again : tie.Need-loop-i-preserved invariant_loop decreases_loop
 loop_again c = (
   search rules,
-  inside_next _ _ _ c.loop-i-test.true c.get_binding-b.ensures c.loop-i.invariant.1
+  inside_next _ _ _ c.loop-i-test.true c.get-b.ensures c.loop-i.invariant.1
       (omega (arith, c.if-terms-b.false, c.if-terms-b-2.false)),
 )
 

@@ -8,7 +8,7 @@ returns : tie.Need-returns-then-a-o
 returns c = numbers_apart _ _ _ _ c.if-a-o.true
 
 returns_2 : tie.Need-returns
-returns_2 c = numbers_meet _ _ _ _ c.if-a-o.false c.get_item-t.ensures
+returns_2 c = numbers_meet _ _ _ _ c.if-a-o.false c.get-t.ensures
 
 pub closes_spec : {M : Type 1} → statement M
 closes_spec = tie.close (tie.spec returns (λ c κs. search rules) returns_2)

@@ -24,13 +24,13 @@ returns c =
     it_is_not (record {
       place = c.loop-i.i;
       inside = c.loop-i-test.true;
-      wrong = ap (binding_rule _) (sym c.get_binding-b.ensures) ∙ sym c.binding_ok.ensures ∙ not-true _ c.if-not-binding_ok.true-raw;
+      wrong = ap (binding_rule _) (sym c.get-b.ensures) ∙ sym c.binding_ok.ensures ∙ not-true _ c.if-not-binding_ok.true-raw;
     })
 
 loop_again : tie.Need-loop-i-preserved invariant_loop decreases_loop
 loop_again c = (
   search rules,
-  right_next _ _ c.loop-i.invariant.1 c.get_binding-b.ensures (sym c.binding_ok.ensures ∙ not-false _ c.if-not-binding_ok.false-raw),
+  right_next _ _ c.loop-i.invariant.1 c.get-b.ensures (sym c.binding_ok.ensures ∙ not-false _ c.if-not-binding_ok.false-raw),
 )
 
 returns_2 : tie.Need-returns invariant_loop decreases_loop

@@ -18,7 +18,7 @@ loop_holds c = naming_start _ _
 
 returns : tie.Need-returns-then-not-binding_ok invariant_loop decreases_loop
 returns c =
-    bad_binding_lem _ _ _ c.loop-i.invariant c.loop-i-test.true c.get_binding-b.ensures
+    bad_binding_lem _ _ _ c.loop-i.invariant c.loop-i-test.true c.get-b.ensures
     (sym c.binding_ok.ensures ∙ not-true _ c.if-not-binding_ok.true-raw)
 
 find_binding_requires : tie.Need-find_binding-requires invariant_loop decreases_loop
@@ -27,12 +27,12 @@ find_binding_requires c κs =
 
 returns_2 : tie.Need-returns-then-find_binding-i invariant_loop decreases_loop
 returns_2 c =
-    repeated _ _ _ c.loop-i.invariant c.loop-i-test.true c.get_binding-b.ensures
+    repeated _ _ _ c.loop-i.invariant c.loop-i-test.true c.get-b.ensures
     (sym c.binding_ok.ensures ∙ not-false _ c.if-not-binding_ok.false-raw) c.find_binding.ensures c.if-find_binding-i.true
 
 loop_again : tie.Need-loop-i-preserved invariant_loop decreases_loop
 loop_again c =
-    named _ _ _ c.loop-i.invariant c.loop-i-test.true c.get_binding-b.ensures
+    named _ _ _ c.loop-i.invariant c.loop-i-test.true c.get-b.ensures
     (sym c.binding_ok.ensures ∙ not-false _ c.if-not-binding_ok.false-raw) c.find_binding.ensures c.if-find_binding-i.false
 
 returns_3 : tie.Need-returns invariant_loop decreases_loop

@@ -22,17 +22,17 @@ loop_holds c = (search rules, find-start _ _)
 
 same_name_requires : tie.Need-same_name-requires invariant_loop decreases_loop
 same_name_requires c κs =
-    (c.requires.1, binding_text _ _ _ _ c.requires.2 c.loop-i-test.true c.get_binding-b.ensures)
+    (c.requires.1, binding_text _ _ _ _ c.requires.2 c.loop-i-test.true c.get-b.ensures)
 
 returns : tie.Need-returns-then-same_name invariant_loop decreases_loop
 returns c =
-    found _ _ _ (binding_next _ _ _ _ c.loop-i-test.true c.get_binding-b.ensures) c.loop-i.invariant.1
+    found _ _ _ (binding_next _ _ _ _ c.loop-i-test.true c.get-b.ensures) c.loop-i.invariant.1
     (sym c.same_name.ensures ∙ c.if-same_name.true)
 
 loop_again : tie.Need-loop-i-preserved invariant_loop decreases_loop
 loop_again c = (
   search rules,
-  passed _ _ _ (binding_next _ _ _ _ c.loop-i-test.true c.get_binding-b.ensures) c.loop-i.invariant.1
+  passed _ _ _ (binding_next _ _ _ _ c.loop-i-test.true c.get-b.ensures) c.loop-i.invariant.1
       (sym c.same_name.ensures ∙ c.if-same_name.false),
 )
 

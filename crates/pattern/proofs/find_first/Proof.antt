@@ -21,22 +21,22 @@ decreases_loop names pattern firsts count t i₀ i = count - i
 loop_holds : tie.Need-loop-i-init invariant_loop decreases_loop
 loop_holds c = (search rules, find-start _ _)
 
-get_item_requires : tie.Need-get_item-u-requires invariant_loop decreases_loop
-get_item_requires c κs = first-inside _ _ _ _ _ c.requires.2 c.loop-i-test.true c.word.ensures
+get_item_requires : tie.Need-get-u-requires invariant_loop decreases_loop
+get_item_requires c κs = (search rules, first-inside _ _ _ _ _ c.requires.2 c.loop-i-test.true c.word.ensures)
 
 same_name_requires : tie.Need-same_name-requires invariant_loop decreases_loop
 same_name_requires c κs =
-    (c.requires.1, first_text _ _ _ _ _ c.requires.2 c.loop-i-test.true c.word.ensures c.get_item-u.ensures)
+    (c.requires.1, first_text _ _ _ _ _ c.requires.2 c.loop-i-test.true c.word.ensures c.get-u.ensures)
 
 returns : tie.Need-returns-then-same_name invariant_loop decreases_loop
 returns c =
-    found _ _ _ (first_next _ _ _ _ c.requires.0 _ c.loop-i-test.true c.word.ensures c.get_item-u.ensures)
+    found _ _ _ (first_next _ _ _ _ c.requires.0 _ c.loop-i-test.true c.word.ensures c.get-u.ensures)
     c.loop-i.invariant.1 (sym c.same_name.ensures ∙ c.if-same_name.true)
 
 loop_again : tie.Need-loop-i-preserved invariant_loop decreases_loop
 loop_again c = (
   search rules,
-  passed _ _ _ (first_next _ _ _ _ c.requires.0 _ c.loop-i-test.true c.word.ensures c.get_item-u.ensures)
+  passed _ _ _ (first_next _ _ _ _ c.requires.0 _ c.loop-i-test.true c.word.ensures c.get-u.ensures)
       c.loop-i.invariant.1 (sym c.same_name.ensures ∙ c.if-same_name.false),
 )
 

@@ -23,7 +23,7 @@ decreases_loop names pattern bindings numbers₀ n start firsts₀ new₀ i₀ n
 here : (c : tie.After-is_variable invariant_loop decreases_loop) {b : Bool} → c.is_variable.result ≡ b →
     let given = c.args in
     Here given.names.now given.pattern.now given.bindings.now c.loop-i.firsts c.loop-i.numbers c.loop-i.new c.loop-i.i
-    (as_item c.get_item-t.result) b
+    (as_item c.get-t.result) b
 here c e =
     let more = c.loop-i-test.true in
     let wide = c.requires.0 in
@@ -31,7 +31,7 @@ here c e =
       now = c.loop-i.invariant.1;
       more = more;
       wide = omega (arith, c.loop-i.invariant.0);
-      read = c.get_item-t.ensures;
+      read = c.get-t.ensures;
       kind = sym c.is_variable.ensures ∙ e;
     }
 
@@ -39,7 +39,7 @@ here c e =
 variable_here : (c : tie.Else-not-is_variable invariant_loop decreases_loop) →
     let given = c.args in
     Here given.names.now given.pattern.now given.bindings.now c.loop-i.firsts c.loop-i.numbers c.loop-i.new c.loop-i.i
-    (as_item c.get_item-t.result) true
+    (as_item c.get-t.result) true
 variable_here c = here c.before (not-false _ c.if-not-is_variable.false-raw)
 
 loop_holds : tie.Need-loop-i-init invariant_loop decreases_loop

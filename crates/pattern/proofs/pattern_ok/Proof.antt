@@ -20,18 +20,18 @@ loop_holds c = reading_start _ _ _ refl
 
 -- after `item_ok` said yes: record i is within its rule by itself
 good : (c : tie.Else-not-item_ok invariant_loop decreases_loop) →
-    Good c.args.names.now c.args.pattern.now c.loop-i.opened c.loop-i.depth c.loop-i.i (as_item c.get_item-t.result)
+    Good c.args.names.now c.args.pattern.now c.loop-i.opened c.loop-i.depth c.loop-i.i (as_item c.get-t.result)
 good c =
     record {
       now = c.loop-i.invariant;
       more = c.loop-i-test.true;
-      read = c.get_item-t.ensures;
+      read = c.get-t.ensures;
       rule = sym c.item_ok.ensures ∙ not-false _ c.if-not-item_ok.false-raw;
     }
 
 returns : tie.Need-returns-then-not-item_ok invariant_loop decreases_loop
 returns c =
-    bad_item c.loop-i.invariant c.loop-i-test.true c.get_item-t.ensures
+    bad_item c.loop-i.invariant c.loop-i-test.true c.get-t.ensures
     (sym c.item_ok.ensures ∙ not-true _ c.if-not-item_ok.true-raw)
 
 returns_2 : tie.Need-returns-then-depth-ge-NESTING_LIMIT invariant_loop decreases_loop

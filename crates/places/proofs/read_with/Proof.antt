@@ -1,5 +1,6 @@
 -- `read_with`: after each turn the first `done` places are there, and those that are to be read next come after them. A turn reads a term or
 -- leads to a lower node.
+use borrow.Author.Rules.{rules}
 use native.Mathlib.Omega.{arith}
 use Prim.Native.Nat.{ℕ, ◌+◌, ◌*◌, ◌-◌, ◌≤◌, ◌<◌, min}
 use mathlib.Core.Path.{◌≡◌}
@@ -41,10 +42,10 @@ below : (c : tie.At-loop-done invariant_loop decreases_loop) {used terms : ℕ} 
 below c now = rw decode-length at now.low
 
 -- the node that is read
-is : (c : tie.After-get_node-here invariant_loop decreases_loop) (used : ℕ) {terms : ℕ}
+is : (c : tie.After-get-here invariant_loop decreases_loop) (used : ℕ) {terms : ℕ}
     → let at-loop = c.before in
-    Now at-loop.before used terms → as_node c.get_node-here.result ≡ node_at (nodes_in at-loop.args.nodes.now used) at-loop.loop-done.at.node
-is c used now = below_at _ used _ c.get_node-here.ensures (below c.before.before now)
+    Now at-loop.before used terms → as_node c.get-here.result ≡ node_at (nodes_in at-loop.args.nodes.now used) at-loop.loop-done.at.node
+is c used now = below_at _ used _ c.get-here.ensures (below c.before.before now)
 
 -- the piece of a turn
 fits : (c : tie.In-loop-done invariant_loop decreases_loop)
@@ -58,10 +59,12 @@ fits c =
 loop_holds : tie.Need-loop-done-init invariant_loop decreases_loop
 loop_holds c used terms store reaches = reading_start store reaches c.requires.1.0.1 c.requires.1.1 c.args.stack.now
 
-get_node_requires : tie.Need-get_node-here-requires invariant_loop decreases_loop
-get_node_requires c κs =
-    let at-loop = c.before in
-    omega (arith, at-loop.requires.0.store.store.fits, below at-loop (reading at-loop))
+get_node_requires : tie.Need-get-here-requires invariant_loop decreases_loop
+get_node_requires c κs = (
+  search rules,
+  let at-loop = c.before in
+      omega (arith, at-loop.requires.0.store.store.fits, below at-loop (reading at-loop)),
+)
 
 -- ---- the part is used up: on to the tail or right ----
 
@@ -86,7 +89,7 @@ loop_again c used terms store reaches =
 run : (c : tie.After-smaller-k invariant_loop decreases_loop)
     → let at = c.loop-done.at in
     let k = c.smaller-k.result in
-    (c.get_node-here.result.a + at.skip + k ≤ limit) × (1 ≤ k) × (k ≤ at.left)
+    (c.get-here.result.a + at.skip + k ≤ limit) × (1 ≤ k) × (k ≤ at.left)
 run c =
     let is-cons = c.before in
     let inner = is-cons.before in
@@ -94,8 +97,8 @@ run c =
     let in-loop = read.before in
     let at-loop = in-loop.before in
     let now = reading at-loop.before.before.before.before.before in
-    let k : c.smaller-k.result ≡ min at-loop.loop-done.at.left (read.get_node-here.result.b - at-loop.loop-done.at.skip) = c.smaller-k.ensures in
-    let q : at-loop.loop-done.at.skip < read.get_node-here.result.b = inner.if-here-at.false in
+    let k : c.smaller-k.result ≡ min at-loop.loop-done.at.left (read.get-here.result.b - at-loop.loop-done.at.skip) = c.smaller-k.ensures in
+    let q : at-loop.loop-done.at.skip < read.get-here.result.b = inner.if-here-at.false in
     let l = run_inside now in-loop.loop-done-test.true (is read.before.before.before.before.before _ now) is-cons.if-here-eq-CONS.true q k in
     let few = at-loop.requires.0.store.few_terms in
     let some = (fits in-loop.before.before.before.before.before).some in

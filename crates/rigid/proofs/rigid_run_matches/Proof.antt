@@ -22,8 +22,8 @@ decreases_loop names terms used pattern numbers p s binds known₀ n i₀ d₀ s
 loop_holds : tie.Need-loop-i-init invariant_loop decreases_loop
 loop_holds c = let asked = c.requires.0 in (left-first asked.0.inside, asked.2, refl)
 
-get_item_requires : tie.Need-get_item-t-requires invariant_loop decreases_loop
-get_item_requires c κs = omega (arith, c.loop-i-test.true)
+get_item_requires : tie.Need-get-t-requires invariant_loop decreases_loop
+get_item_requires c κs = (search rules, omega (arith, c.loop-i-test.true))
 
 skip_requires : tie.Need-skip-d-requires invariant_loop decreases_loop
 skip_requires c κs =
@@ -37,7 +37,7 @@ loop_less c = omega (arith, c.loop-i-test.true)
 
 loop_again : tie.Need-loop-i-preserved-then-d-gt0 invariant_loop decreases_loop
 loop_again c =
-    (left_skipped c.loop-i.invariant.0 c.loop-i-test.true c.get_item-t.ensures (omega arith) c.skip-d.ensures, c.loop-i.invariant.1, c.loop-i.invariant.2)
+    (left_skipped c.loop-i.invariant.0 c.loop-i-test.true c.get-t.ensures (omega arith) c.skip-d.ensures, c.loop-i.invariant.1, c.loop-i.invariant.2)
 
 word_requires : tie.Need-word-x-requires invariant_loop decreases_loop
 unfolding count
@@ -47,19 +47,19 @@ fit_record_requires : tie.Need-fit_record-requires invariant_loop decreases_loop
 fit_record_requires c κs =
     let a = c.requires in (
       (record { store = a.0.0.store; few = a.0.0.few; inside = c.loop-i.invariant.0.inside }, a.0.1, c.loop-i.invariant.1),
-      left_item c.loop-i.invariant.0 c.loop-i-test.true c.get_item-t.ensures a.1.rule,
+      left_item c.loop-i.invariant.0 c.loop-i-test.true c.get-t.ensures a.1.rule,
     )
 
 returns : tie.Need-returns-in-No invariant_loop decreases_loop
 returns c = (
-  left_no c.loop-i.invariant.0 c.loop-i-test.true c.get_item-t.ensures _ c.if-d-gt0.false c.word-x.ensures
+  left_no c.loop-i.invariant.0 c.loop-i-test.true c.get-t.ensures _ c.if-d-gt0.false c.word-x.ensures
       c.fit_record.ensures.1 c.in-No.is,
   c.fit_record.ensures.2,
 )
 
 returns_2 : tie.Need-returns-in-Ends invariant_loop decreases_loop
 returns_2 c = (
-  left-ends c.loop-i.invariant.0 c.loop-i-test.true c.get_item-t.ensures _ c.if-d-gt0.false c.word-x.ensures
+  left-ends c.loop-i.invariant.0 c.loop-i-test.true c.get-t.ensures _ c.if-d-gt0.false c.word-x.ensures
       c.fit_record.ensures.1 c.in-Ends.is,
   c.fit_record.ensures.2,
 )
@@ -82,7 +82,7 @@ loop_less_2 c = omega (arith, c.loop-i-test.true)
 
 loop_again_2 : tie.Need-loop-i-preserved invariant_loop decreases_loop
 loop_again_2 c = (
-  left-takes c.loop-i.invariant.0 c.loop-i-test.true c.get_item-t.ensures _ c.if-d-gt0.false c.word-x.ensures
+  left-takes c.loop-i.invariant.0 c.loop-i-test.true c.get-t.ensures _ c.if-d-gt0.false c.word-x.ensures
       c.fit_record.ensures.1 c.fit_record.ensures.0 c.in-Takes.is c.opens-d.ensures,
   c.fit_record.ensures.2,
   omega (arith, c.loop-i.invariant.2, c.fit_record.auto.known),

@@ -17,7 +17,7 @@ returns_3 c =
     let h = c.requires in (
       omega (arith, n.0),
       omega (arith, n.1, h.1),
-      λ i a b. apart-at _ _ _ _ _ c.get_item-t.ensures c.if-pattern-p.false (omega (arith, c.if-t-gt-OPEN.false)) (n.2 _ (omega arith) (omega (arith, n.0))),
+      λ i a b. apart-at _ _ _ _ _ c.get-t.ensures c.if-pattern-p.false (omega (arith, c.if-t-gt-OPEN.false)) (n.2 _ (omega arith) (omega (arith, n.0))),
     )
 
 pub skip_apart_spec : {M : Type 1} → statement M

@@ -1,4 +1,5 @@
 -- `to_run`: wherever the loop stands, the terms to be read are those of the piece given; each step takes of the fuel.
+use borrow.Author.Rules.{rules}
 use native.Mathlib.Omega.{arith}
 use mathlib.Core.Path.{refl}
 use mathlib.Core.List.{[], append-nil}
@@ -28,11 +29,13 @@ here : (c : tie.At-loop-at invariant_loop decreases_loop)
     → Goes (nodes_in c.args.nodes.now c.requires.0.used) (rest_of c.args.at c.args.stack.now) (rest_of c.loop-at.at c.loop-at.stack)
 here c = let asked = c.requires.0 in c.loop-at.invariant.1 _ asked.store asked.ready
 
-get_node_requires : tie.Need-get_node-n-requires invariant_loop decreases_loop
-get_node_requires c κs =
-    let at-loop = c.before.before.before in
-    let store = at-loop.requires.0.store in
-    omega (arith, store.store.fits, (goes_here _ _ store (here at-loop) refl).0)
+get_node_requires : tie.Need-get-n-requires invariant_loop decreases_loop
+get_node_requires c κs = (
+  search rules,
+  let at-loop = c.before.before.before in
+      let store = at-loop.requires.0.store in
+      omega (arith, store.store.fits, (goes_here _ _ store (here at-loop) refl).0),
+)
 
 -- ---- the fuel is spent ----
 
@@ -44,7 +47,7 @@ returns c = (c.loop-at.invariant.0, λ some. absurd (omega (arith, c.if-at-eq0.t
 loop_again : tie.Need-loop-at-preserved-then-n-at invariant_loop decreases_loop
 loop_again c =
     let inv = c.loop-at.invariant in
-    (inv.0, λ used store ready. goes_on _ _ store (inv.1 used store ready) c.get_node-n.ensures c.if-n-at.true)
+    (inv.0, λ used store ready. goes_on _ _ store (inv.1 used store ready) c.get-n.ensures c.if-n-at.true)
 
 -- ---- a run ----
 
@@ -54,7 +57,7 @@ returns_2 c =
       inv.0,
       λ some used store ready.
           let goes = inv.1 used store ready in
-          record { goes = goes; begins = goes-front _ _ store goes c.get_node-n.ensures c.if-n-eq-CONS.true c.if-n-at.false },
+          record { goes = goes; begins = goes-front _ _ store goes c.get-n.ensures c.if-n-eq-CONS.true c.if-n-at.false },
     )
 
 -- ---- the piece lies in the left ----
@@ -62,7 +65,7 @@ returns_2 c =
 loop_again_2 : tie.Need-loop-at-preserved-then-at-here invariant_loop decreases_loop
 loop_again_2 c =
     let inv = c.loop-at.invariant in
-    (inv.0, λ used store ready. goes_in _ _ store (inv.1 used store ready) c.get_node-n.ensures c.if-n-eq-CONS.false c.if-n-at.false c.if-at-here.true)
+    (inv.0, λ used store ready. goes_in _ _ store (inv.1 used store ready) c.get-n.ensures c.if-n-eq-CONS.false c.if-n-at.false c.if-at-here.true)
 
 -- ---- the stack is full ----
 
@@ -83,7 +86,7 @@ set_word_requires c κs =
     let inner = concat.before.before in
     let read = inner.before.before.before in
     let at-loop = read.before.before.before.before in
-    let small = goes_small _ _ at-loop.requires.0.store (here at-loop) read.get_node-n.ensures concat.if-n-eq-CONS.false inner.if-n-at.false in
+    let small = goes_small _ _ at-loop.requires.0.store (here at-loop) read.get-n.ensures concat.if-n-eq-CONS.false inner.if-n-at.false in
     (omega (arith, at-loop.loop-at.invariant.0, has_room.if-at-eq-MOST_FIELDS.false), omega (arith, small.1))
 
 -- both words of the field fit on the stack
@@ -110,7 +113,7 @@ set_word_requires_2 c κs =
     let read = has_room.before.before.before.before.before.before.before.before.before.before.before in
     let at-loop = read.before.before.before.before in (
       rw (pushed-one.set_word.ensures, length-set) (omega (arith, at-loop.loop-at.invariant.0, has_room.if-at-eq-MOST_FIELDS.false)),
-      omega (arith, (goes_here _ _ at-loop.requires.0.store (here at-loop) read.get_node-n.ensures).2),
+      omega (arith, (goes_here _ _ at-loop.requires.0.store (here at-loop) read.get-n.ensures).2),
     )
 
 add_at : tie.Need-overflow_add-at-in-loop-at invariant_loop decreases_loop
@@ -127,7 +130,7 @@ loop_again_4 c =
     let pushed-one = pushed-two.before.before.before.before in
     let inv = pushed-one.loop-at.invariant in (
       omega (arith, inv.0, pushed-one.if-at-eq-MOST_FIELDS.false),
-      λ used store ready. goes_split _ _ store (inv.1 used store ready) pushed-one.get_node-n.ensures pushed-one.if-n-eq-CONS.false pushed-one.if-n-at.false pushed-one.if-at-here.false
+      λ used store ready. goes_split _ _ store (inv.1 used store ready) pushed-one.get-n.ensures pushed-one.if-n-eq-CONS.false pushed-one.if-n-at.false pushed-one.if-at-here.false
           (pushed _ _ _ _ _ _ (fits pushed-one) pushed-one.set_word.ensures pushed-two.set_word-in-loop-at.ensures),
     )
 

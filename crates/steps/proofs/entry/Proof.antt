@@ -7,7 +7,7 @@ use Rattle.steps.proofs.entry.Statement.{statement}
 use Rattle.steps.proofs.entry.Tie as tie
 
 returns : tie.Need-returns
-returns c n lt = c.get_run.ensures ∙ sym (decode-at run_layout n _ _ _ lt)
+returns c n lt = c.get.ensures ∙ sym (decode-at run_layout n _ _ _ lt)
 
 pub entry_spec : {M : Type 1} → statement M
 entry_spec = tie.close (tie.spec (λ c κs. search rules) returns)

@@ -13,7 +13,7 @@ returns c names terms used last bd inside =
 returns_2 : tie.Need-returns
 returns_2 c names terms used last bd inside =
     went _ _ _ bd c.next.ensures refl refl
-    ∙ close_ended _ _ _ last _ _ _ _ _ (stack_less_run _ _ c.requires.0 c.get_run-around.ensures) c.if-s-ne0.false
+    ∙ close_ended _ _ _ last _ _ _ _ _ (stack_less_run _ _ c.requires.0 c.get-around.ensures) c.if-s-ne0.false
 
 pub turn_close_spec : {M : Type 1} → statement M
 turn_close_spec =

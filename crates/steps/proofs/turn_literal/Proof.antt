@@ -14,20 +14,20 @@ returns c used x last lv bd inside =
 symbol_matches_requires : tie.Need-symbol_matches-requires
 symbol_matches_requires c κs =
     let a = c.requires in
-    literal_texts _ _ _ _ _ _ _ a.0.ready.store (omega (arith, a.0.ready.inside)) c.literal.ensures c.get_term-u.ensures a.1.1 a.1.0
+    literal_texts _ _ _ _ _ _ _ a.0.ready.store (omega (arith, a.0.ready.inside)) c.literal.ensures c.get-u.ensures a.1.1 a.1.0
 
 returns_2 : tie.Need-returns-then-not-symbol_matches
 returns_2 c used x last lv bd inside =
     let a = c.requires in
     stopped _ _ lv bd c.stop-then-not-symbol_matches.ensures
-    ∙ literal_differs _ _ _ _ x last _ _ _ a.1.1 _ c.get_term-u.ensures inside c.if-s-eq0.false
+    ∙ literal_differs _ _ _ _ x last _ _ _ a.1.1 _ c.get-u.ensures inside c.if-s-eq0.false
     (literal_same _ _ _ _ c.symbol_matches.ensures c.literal.ensures) (not-true _ c.if-not-symbol_matches.true-raw)
 
 returns_3 : tie.Need-returns
 returns_3 c used x last lv bd inside =
     let a = c.requires in
     passed _ _ _ lv 1 c.next.ensures bd c.pass.ensures
-    ∙ literal_equals _ _ _ _ x last _ _ _ a.1.1 _ c.get_term-u.ensures inside c.if-s-eq0.false
+    ∙ literal_equals _ _ _ _ x last _ _ _ a.1.1 _ c.get-u.ensures inside c.if-s-eq0.false
     (literal_same _ _ _ _ c.symbol_matches.ensures c.literal.ensures) (not-false _ c.if-not-symbol_matches.false-raw)
 
 pub turn_literal_spec : {M : Type 1} → statement M

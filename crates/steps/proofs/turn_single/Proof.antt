@@ -17,7 +17,7 @@ returns_2 : tie.Need-returns-then-not-variable_accepts
 returns_2 c =
     let a = c.requires in (
       λ last lv. stopped _ _ lv _ c.stop-then-not-variable_accepts.ensures
-          ∙ single_refused _ _ _ _ _ last _ _ _ a.1.0 a.1.1 _ c.get_term-u.ensures a.0.0.inside c.if-s-eq0.false
+          ∙ single_refused _ _ _ _ _ last _ _ _ a.1.0 a.1.1 _ c.get-u.ensures a.0.0.inside c.if-s-eq0.false
           c.variable_accepts.ensures (not-true _ c.if-not-variable_accepts.true-raw),
       refl,
       a.0.2,
@@ -28,7 +28,7 @@ returns_3 c =
     let a = c.requires in
     let g = c.give.ensures in (
       λ last lv. gave _ _ _ lv 1 c.next.ensures _ _ g.0 g.1
-          ∙ single_new _ _ _ _ _ last _ _ _ a.1.0 a.1.1 _ c.get_term-u.ensures a.0.0.inside c.if-s-eq0.false
+          ∙ single_new _ _ _ _ _ last _ _ _ a.1.0 a.1.1 _ c.get-u.ensures a.0.0.inside c.if-s-eq0.false
           c.variable_accepts.ensures (not-false _ c.if-not-variable_accepts.false-raw) (rw decode-length c.if-s-x.true),
       entries_less _ _ _ _ g.1,
       a.0.2,
@@ -44,7 +44,7 @@ returns_4 c =
     let a = c.requires in
     let e = c.entry-e.ensures _ c.if-s-x.false in (
       λ last lv. stopped _ _ lv _ c.stop-then-not-equal_runs.ensures
-          ∙ single_differs _ _ _ _ _ last _ _ _ a.1.0 a.1.1 _ c.get_term-u.ensures a.0.0.inside c.if-s-eq0.false
+          ∙ single_differs _ _ _ _ _ last _ _ _ a.1.0 a.1.1 _ c.get-u.ensures a.0.0.inside c.if-s-eq0.false
           c.variable_accepts.ensures (not-false _ c.if-not-variable_accepts.false-raw)
           _ (rw decode-length c.if-s-x.false) e c.equal_runs.ensures.0 (not-true _ c.if-not-equal_runs.true-raw),
       refl,
@@ -61,7 +61,7 @@ returns_5 c =
     let a = c.requires in
     let e = c.entry-e.ensures _ c.if-s-x.false in (
       λ last lv. passed _ _ _ lv 1 c.next-2.ensures _ c.pass.ensures
-          ∙ single_equals _ _ _ _ _ last _ _ _ a.1.0 a.1.1 _ c.get_term-u.ensures a.0.0.inside c.if-s-eq0.false
+          ∙ single_equals _ _ _ _ _ last _ _ _ a.1.0 a.1.1 _ c.get-u.ensures a.0.0.inside c.if-s-eq0.false
           c.variable_accepts.ensures (not-false _ c.if-not-variable_accepts.false-raw)
           _ (rw decode-length c.if-s-x.false) e c.equal_runs.ensures.0 (not-false _ c.if-not-equal_runs.false-raw),
       refl,

@@ -32,7 +32,7 @@ term_ok_requires c κs = (search rules, tables_blocks _ c.loop-i.invariant.2 (se
 returns : tie.Need-returns-then-not-term_ok invariant_loop decreases_loop
 returns c =
     let b = sym c.term_ok.ensures ∙ not-true _ c.if-not-term_ok.true-raw in
-    sym (c.loop-i.invariant.1 ∙ rest_more _ _ _ _ c.loop-i-test.true c.get_term-t.ensures b)
+    sym (c.loop-i.invariant.1 ∙ rest_more _ _ _ _ c.loop-i-test.true c.get-t.ensures b)
 
 enter_requires : tie.Need-enter-requires invariant_loop decreases_loop
 enter_requires c κs = (search rules, search rules, depth_small _ _ _ (sym (not-false _ c.if-not-term_ok.false-raw) ∙ c.term_ok.ensures))
@@ -42,7 +42,7 @@ loop_again c =
     let room = c.requires in
     let more = c.loop-i-test.true in
     let b = sym c.term_ok.ensures ∙ not-false _ c.if-not-term_ok.false-raw in
-    let t = c.get_term-t.ensures in (
+    let t = c.get-t.ensures in (
       search rules,
       c.loop-i.invariant.1 ∙ rest_more _ _ _ _ more t b,
       tables_more _ c.loop-i.invariant.2 (omega (arith, c.loop-i.invariant)) (omega (arith, c.loop-i.invariant)) t c.enter.ensures.0

@@ -29,7 +29,7 @@ right_is c = c.unclamp-right.ensures.1 _ c.requires.0 c.requires.1.1.0.low
 -- the count of the nodes that are made
 makes_is : (c : tie.After-join_makes-made)
     → let a = c.args in
-    c.join_makes-made.result ≡ plan_makes (plan (nodes_in a.nodes.now a.count.now) c.get_node-r.result.height a.f.node a.f.len)
+    c.join_makes-made.result ≡ plan_makes (plan (nodes_in a.nodes.now a.count.now) c.get-r.result.height a.f.node a.f.len)
 makes_is c =
     c.join_makes-made.ensures _ c.requires.0 (field_piece _ _ c.requires.0 _ _ c.requires.1.0 c.if-f-eq0.false)
 
@@ -37,9 +37,9 @@ unclamp_requires : tie.Need-unclamp-right-requires
 unclamp_requires c κs =
     record { used = _; store = c.requires.0; low = c.requires.1.1.0.low }
 
-get_node_requires : tie.Need-get_node-r-requires
+get_node_requires : tie.Need-get-r-requires
 get_node_requires c κs =
-    omega (arith, c.unclamp-right.ensures.0, c.requires.0.store.fits, c.requires.1.1.0.low)
+    (search rules, omega (arith, c.unclamp-right.ensures.0, c.requires.0.store.fits, c.requires.1.1.0.low))
 
 join_makes_requires : tie.Need-join_makes-made-requires
 join_makes_requires c κs =
@@ -53,7 +53,7 @@ returns_3 c =
     let read = counted.before in
     let right = read.before in
     joined-full _ _ _ _ right.if-f-eq0.false right.if-g-eq0.false (right_is right)
-    (height_at _ _ _ read.get_node-r.ensures (omega (arith, right.unclamp-right.ensures.0, right.requires.1.1.0.low)))
+    (height_at _ _ _ read.get-r.ensures (omega (arith, right.unclamp-right.ensures.0, right.requires.1.1.0.low)))
     (makes_is counted) (sym at_room.node_room.ensures ∙ not-true _ c.if-not-node_room.true-raw)
 
 add_join_build : tie.Need-overflow_add-used
@@ -73,7 +73,7 @@ join_build_requires c κs =
       right.requires.0,
       (
         field_piece _ _ right.requires.0 _ _ right.requires.1.0 right.if-f-eq0.false,
-        joins_fit _ _ _ _ right.if-f-eq0.false right.if-g-eq0.false (right_is right) (height_at _ _ _ read.get_node-r.ensures low.0)
+        joins_fit _ _ _ _ right.if-f-eq0.false right.if-g-eq0.false (right_is right) (height_at _ _ _ read.get-r.ensures low.0)
             (makes_is counted) low fits,
       ),
     )
@@ -106,7 +106,7 @@ returns_4 c =
     let read = counted.before in
     let right = read.before in
     joined_done _ _ _ _ right.if-f-eq0.false right.if-g-eq0.false (right_is right.before.before.before.before.before)
-    (height_at _ _ _ read.get_node-r.ensures (omega (arith, right.unclamp-right.ensures.0, right.requires.1.1.0.low)))
+    (height_at _ _ _ read.get-r.ensures (omega (arith, right.unclamp-right.ensures.0, right.requires.1.1.0.low)))
     (makes_is counted.before.before.before.before.before) (sym at_room.node_room.ensures ∙ not-false _ has_room.if-not-node_room.false-raw) c.new.ensures built.join_build.ensures
 
 pub joined_spec : {M : Type 1} → statement M

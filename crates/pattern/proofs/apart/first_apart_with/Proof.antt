@@ -27,11 +27,11 @@ loop_holds c =
 
 bucket_of_requires : tie.Need-bucket_of-bucket-requires invariant_loop decreases_loop
 bucket_of_requires c κs =
-    (c.requires.0, binding_text _ _ _ _ c.loop-k.invariant.1.texts c.loop-k-test.true c.get_binding-b.ensures)
+    (c.requires.0, binding_text _ _ _ _ c.loop-k.invariant.1.texts c.loop-k-test.true c.get-b.ensures)
 
 name_entered_requires : tie.Need-name_entered-looked-requires invariant_loop decreases_loop
 name_entered_requires c κs =
-    let key = bucket_read _ _ _ _ c.get_binding-b.ensures c.bucket_of-bucket.ensures in
+    let key = bucket_read _ _ _ _ c.get-b.ensures c.bucket_of-bucket.ensures in
     (c.loop-k-test.true, (_, key, c.loop-k.invariant.1))
 
 same_length : tie.Need-shape_of-heads-then-looked invariant_loop decreases_loop
@@ -67,13 +67,13 @@ returns_2 c = given_up (not-true _ c.if-not-way.true)
 enter_requires : tie.Need-enter-requires invariant_loop decreases_loop
 enter_requires c κs =
     let was = c.loop-k.invariant in
-    let key = bucket_read _ _ _ _ c.get_binding-b.ensures c.bucket_of-bucket.ensures in
+    let key = bucket_read _ _ _ _ c.get-b.ensures c.bucket_of-bucket.ensures in
     ((bucket_room was.1 key, omega (arith, c.if-k-lt-LIMIT.true, was.1.earlier-room), c.if-k-lt-LIMIT.true), was.1.chains.heads_low _)
 
 loop_again : tie.Need-loop-k-preserved invariant_loop decreases_loop
 loop_again c =
     let was = c.loop-k.invariant in
-    let key = bucket_read _ _ _ _ c.get_binding-b.ensures c.bucket_of-bucket.ensures in
+    let key = bucket_read _ _ _ _ c.get-b.ensures c.bucket_of-bucket.ensures in
     let new = told_no c.name_entered-looked.ensures.1 c.if-looked.false in (
       search rules,
       elim c.if-k-lt-LIMIT.branch [

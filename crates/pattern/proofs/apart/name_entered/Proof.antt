@@ -26,20 +26,20 @@ loop_holds c =
     let here = name_head c.requires.1.2 c.requires.1.1 c.word-at.ensures in
     ((_, here), omega (arith, name_low here))
 
-get_binding_requires_2 : tie.Need-get_binding-c-requires invariant_loop decreases_loop
+get_binding_requires_2 : tie.Need-get-c-requires invariant_loop decreases_loop
 get_binding_requires_2 c κs =
-    omega (arith, c.requires.0, sought_low c.loop-at.invariant.0.1 c.loop-at-test.true)
+    (search rules, omega (arith, c.requires.0, sought_low c.loop-at.invariant.0.1 c.loop-at-test.true))
 
 same_name_requires : tie.Need-same_name-requires invariant_loop decreases_loop
 same_name_requires c κs =
     let low = sought_low c.loop-at.invariant.0.1 c.loop-at-test.true in (
-      binding_text _ _ _ _ c.requires.1.2.texts c.requires.0 c.get_binding-b.ensures,
-      binding_text _ _ _ _ c.requires.1.2.texts (omega (arith, c.requires.0)) c.get_binding-c.ensures,
+      binding_text _ _ _ _ c.requires.1.2.texts c.requires.0 c.get-b.ensures,
+      binding_text _ _ _ _ c.requires.1.2.texts (omega (arith, c.requires.0)) c.get-c.ensures,
     )
 
 returns : tie.Need-returns-then-same_name invariant_loop decreases_loop
 returns c =
-    let same = name-same _ _ _ _ c.get_binding-b.ensures c.get_binding-c.ensures c.same_name.ensures c.if-same_name.true in (
+    let same = name-same _ _ _ _ c.get-b.ensures c.get-c.ensures c.same_name.ensures c.if-same_name.true in (
       omega (arith, c.loop-at.invariant.1),
       it_is (record {
         place = c.loop-at.at - 1;
@@ -61,7 +61,7 @@ loop_less c =
 
 loop_again : tie.Need-loop-at-preserved invariant_loop decreases_loop
 loop_again c =
-    let other = name_other _ _ _ _ c.get_binding-b.ensures c.get_binding-c.ensures c.same_name.ensures c.if-same_name.false in
+    let other = name_other _ _ _ _ c.get-b.ensures c.get-c.ensures c.same_name.ensures c.if-same_name.false in
     let (base, here) = c.loop-at.invariant.0 in
     let more = c.loop-at-test.true in (
       (base, rw c.number-at.ensures (sought_next here more other)),

@@ -1,5 +1,5 @@
 -- Each case's discriminant is 01's number.
-use Rattle.std.proofs.Common.{◌≡◌, ℕ, ◌+◌, refl}
+use Rattle.std.proofs.Common.{◌≡◌, ◌+◌, refl}
 use Rattle.words.specs.Refusals.{spec_number}
 use Rattle.words.specs.declared.refusal.Refusal.{Refusal}
 use Rattle.words.specs.declared.refusal.Refusal.TheVariants.{Uneven, BadTerm, BadNode, BadField, PastEnd, TooLong, BadPattern, BadBinding}
