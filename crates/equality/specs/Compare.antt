@@ -1,10 +1,10 @@
 -- What comparing two runs of any store answers: 01's number, or whether they are equal.
-use Rattle.std.specs.Prelude.{List, Bool, true, false, ◌&&◌, leb, ℕ, suc, zero, ◌+◌}
+use Rattle.std.specs.Prelude.{List, Bool, true, false, ◌&&◌, leb, ℕ, suc, zero, ◌+◌, Result, Ok, Err}
 use Rattle.term_spec.specs.Refusal.{past_end}
 use Rattle.value.specs.Check.{terms_number}
 use Rattle.value.specs.Equal.{spec_equal_runs}
-use Rattle.equality.specs.declared.Compared.{Compared}
-use Rattle.equality.specs.declared.Compared.TheVariants.{Equal, Different, Refused}
+use Rattle.words.specs.declared.refusal.Refusal.{Refusal}
+use Rattle.words.specs.Refusals.{spec_number}
 
 -- The answers that there are.
 pub data Comparison : Type 0 where
@@ -12,16 +12,15 @@ pub data Comparison : Type 0 where
   different : Comparison
   refused_runs : ℕ → Comparison
 
--- Each case of the enum is one of them, and no two are the same one.
-unfoldable pub answer_of : Compared → Comparison
-answer_of Equal = same
-answer_of Different = different
-answer_of (Refused n) = refused_runs n
-
 -- The answer to whether they are equal.
 unfoldable pub found : Bool → Comparison
 found true = same
 found false = different
+
+-- Each answer of the code is one of them, and no two are the same one.
+unfoldable pub answer_of : Result Bool Refusal → Comparison
+answer_of (Ok b) = found b
+answer_of (Err r) = refused_runs (spec_number r)
 
 -- The first of 1, 2 and 5 that applies, or whether they are equal.
 unfoldable pub decided_by : ℕ → Bool → Bool → Comparison

@@ -12,7 +12,8 @@ ghost use Rattle.words.specs.Records.{as_run};
 ghost use Rattle.term_spec.specs.Words.{Lies};
 ghost use Rattle.term_spec.specs.Term.{term_layout, limit};
 
-use words::{Run, Term, refusal};
+use words::refusal::Refusal;
+use words::{Run, Term};
 
 // ---- within a budget ----
 
@@ -259,14 +260,6 @@ pub fn equal_runs(
 
 // ---- any two runs ----
 
-// What comparing two runs answers.
-#[derive(Clone, Copy)]
-pub enum Compared {
-    Equal,
-    Different,
-    Refused(usize),
-}
-
 // Whether two runs of a store are equal, for any arguments: 1, 2, then 5 for a run that ends past the used terms.
 pub fn compare_runs(
     names: &[u8],
@@ -276,29 +269,17 @@ pub fn compare_runs(
     n: usize,
     p: usize,
     m: usize,
-) -> Compared
+) -> Result<bool, Refusal>
     ensures { answer_of result ≡ compared_runs names.now terms.now used s n p m }
 {
-    let number = value::check_terms(names, terms, used);
-    if number != 0 {
-        return Compared::Refused(number);
+    value::check_terms(names, terms, used)?;
+    if used < n || used - n < s {
+        return Err(Refusal::PastEnd);
     }
-    if used < n {
-        return Compared::Refused(refusal::PAST_END);
-    }
-    if used - n < s {
-        return Compared::Refused(refusal::PAST_END);
-    }
-    if used < m {
-        return Compared::Refused(refusal::PAST_END);
-    }
-    if used - m < p {
-        return Compared::Refused(refusal::PAST_END);
+    if used < m || used - m < p {
+        return Err(Refusal::PastEnd);
     }
     let first = Run { start: s, len: n };
     let second = Run { start: p, len: m };
-    if equal_alone(names, terms, used, first, second) {
-        return Compared::Equal;
-    }
-    Compared::Different
+    Ok(equal_alone(names, terms, used, first, second))
 }

@@ -7,11 +7,13 @@ ghost use Rattle.term_spec.specs.Words.{Lies, decode};
 ghost use Rattle.term_spec.specs.Term.{term_layout, bracket_kind, limit, depth_limit, is_scalar, depth_k, deepest as deepestOf};
 ghost use Rattle.term_spec.specs.Term.{bracket_rule, symbol_rule, upper_rule, term_rule, terms_rule};
 ghost use Rattle.words.specs.Records.{as_term};
+ghost use Rattle.words.specs.Refusals.{told_number};
 ghost use Rattle.value.specs.Check.{run_of, terms_number};
 ghost use Rattle.value.specs.Blocks.{spec_low_block, spec_high_block, Covers, Blocks, deepened, Tables};
 ghost use Rattle.value.specs.Equal.{Texts, spec_equal_symbols};
 
-use words::{Term, refusal};
+use words::Term;
+use words::refusal::Refusal;
 
 // ---- the rules of a term store ----
 
@@ -262,26 +264,20 @@ pub fn terms_ok(names: &[u8], terms: &[u32], used: usize) -> bool
     all_ok(names, terms, used, &mut low, &mut high)
 }
 
-// 0, or the first of 1 and 2 that applies to the names and all used terms.
-pub fn check_terms(names: &[u8], terms: &[u32], used: usize) -> usize
-    ensures { result ≡ terms_number names.now terms.now used }
+// The first of 1 and 2 that applies to the names and all used terms.
+pub fn check_terms(names: &[u8], terms: &[u32], used: usize) -> Result<(), Refusal>
+    ensures { told_number result ≡ terms_number names.now terms.now used }
 {
-    if terms.len() % words::TERM_WIDTH != 0 {
-        return refusal::UNEVEN;
+    if terms.len() % words::TERM_WIDTH != 0 || words::LIMIT < names.len() {
+        return Err(Refusal::Uneven);
     }
-    if words::LIMIT < names.len() {
-        return refusal::UNEVEN;
-    }
-    if words::LIMIT < used {
-        return refusal::UNEVEN;
-    }
-    if terms.len() / words::TERM_WIDTH < used {
-        return refusal::UNEVEN;
+    if words::LIMIT < used || terms.len() / words::TERM_WIDTH < used {
+        return Err(Refusal::Uneven);
     }
     if !terms_ok(names, terms, used) {
-        return refusal::BAD_TERM;
+        return Err(Refusal::BadTerm);
     }
-    0
+    Ok(())
 }
 
 // ---- symbols ----

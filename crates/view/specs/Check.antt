@@ -1,5 +1,5 @@
 -- What the checks of a call answer: 01's numbers 1 to 4, read off the specification's tests; the code's answers as the specification's.
-use Rattle.std.specs.Prelude.{List, [], Bool, true, false, ◌&&◌, leb, length, drop, ℕ, ◌+◌}
+use Rattle.std.specs.Prelude.{Result, Ok, Err, List, [], Bool, true, false, ◌&&◌, leb, length, drop, ℕ, ◌+◌}
 use Rattle.std.proofs.Math.Option.{Option, some, none}
 use Rattle.term_spec.specs.Refusal.{uneven, bad_term, bad_node, bad_field, nodes_full}
 use Rattle.term_spec.specs.Words.{write}
@@ -8,8 +8,8 @@ use Rattle.view_spec.specs.Build.{Built as BuiltNodes}
 use Rattle.calls_spec.specs.Store.{Store, nodes, capacity, counts_rule, store_terms, store_nodes}
 use Rattle.calls_spec.specs.Step.{Answer as SpecAnswer, built, refused, After, ask}
 use Rattle.view.specs.declared.Field.{Field}
-use Rattle.view.specs.declared.Answer.{Answer}
-use Rattle.view.specs.declared.Answer.TheVariants.{Built, Refused}
+use Rattle.words.specs.declared.refusal.Refusal.{Refusal}
+use Rattle.words.specs.Refusals.{spec_number}
 
 -- A field of the code, as the specification has it.
 abbrev pub as_field : Field → SpecField
@@ -20,9 +20,9 @@ abbrev pub store_of : List ℕ → List ℕ → ℕ → List ℕ → ℕ → Sto
 store_of names terms n nodes m = record { names = names; term_words = terms; terms_used = n; node_words = nodes; nodes_used = m }
 
 -- What a call that hands back a field answers, as the specification has it.
-unfoldable pub answer_of : Answer → SpecAnswer
-answer_of (Built f) = built (as_field f)
-answer_of (Refused n) = refused n
+unfoldable pub answer_of : Result Field Refusal → SpecAnswer
+answer_of (Ok f) = built (as_field f)
+answer_of (Err r) = refused (spec_number r)
 
 -- What a call leaves that is lent neither slots nor a work buffer.
 unfoldable pub leaves : SpecAnswer → Store → After

@@ -10,9 +10,11 @@ ghost use Rattle.calls_spec.specs.Store.{capacity};
 ghost use Rattle.calls_spec.specs.Step.{call_from_runs, call_take, call_rest, call_range, call_join, step};
 ghost use Rattle.nodes.specs.NodeStore.{nodes_in, AnyStore, Reaches};
 ghost use Rattle.from_runs.specs.FromRuns.{RunStore};
+ghost use Rattle.words.specs.Refusals.{told_number};
 ghost use Rattle.view.specs.Check.{as_field, store_of, checked, numbered, answer_of, leaves, grown_by};
 
-use words::{Node, refusal};
+use words::Node;
+use words::refusal::Refusal;
 
 // A field: the first len terms of a node.
 #[derive(Clone, Copy)]
@@ -36,15 +38,8 @@ impl Field {
     pub fn clamped(self, n: usize) -> Field
         ensures { as_field result ≡ take_field (as_field self) (min self.len n) }
     {
-        Field::new(self.node, nodes::smaller(self.len, n))
+        Field::new(self.node, self.len.min(n))
     }
-}
-
-// What a call that hands back a field answers.
-#[derive(Clone, Copy)]
-pub enum Answer {
-    Built(Field),
-    Refused(usize),
 }
 
 // ---- checks ----
@@ -63,8 +58,8 @@ fn nodes_even(nodes: &[u32], used: usize) -> bool
     used <= nodes.len() / words::NODE_WIDTH
 }
 
-// 0, or the first of 1 to 4 that applies to the stores and two fields. `even` says whether what else the call is lent is even. A call with
-// fewer fields gives the empty one, which is never refused.
+// The first of 1 to 4 that applies to the stores and two fields. `even` says whether what else the call is lent is even. A call with fewer fields
+// gives the empty one, which is never refused.
 pub fn check(
     names: &[u8],
     terms: &[u32],
@@ -74,30 +69,23 @@ pub fn check(
     even: bool,
     f: Field,
     g: Field,
-) -> usize
+) -> Result<(), Refusal>
     ensures { let store = store_of names.now terms.now terms_used nodes.now nodes_used in
-        result ≡ numbered (checked store even (as_field f) (as_field g)) }
+        told_number result ≡ numbered (checked store even (as_field f) (as_field g)) }
 {
-    if !even {
-        return refusal::UNEVEN;
+    if !even || !nodes_even(nodes, nodes_used) {
+        return Err(Refusal::Uneven);
     }
-    if !nodes_even(nodes, nodes_used) {
-        return refusal::UNEVEN;
-    }
-    let number = value::check_terms(names, terms, terms_used);
-    if number != 0 {
-        return number;
-    }
+    value::check_terms(names, terms, terms_used)?;
     if !nodes::nodes_ok(nodes, terms_used, nodes_used) {
-        return refusal::BAD_NODE;
+        return Err(Refusal::BadNode);
     }
-    if !nodes::field_ok(nodes, nodes_used, f.node, f.len) {
-        return refusal::BAD_FIELD;
+    if !nodes::field_ok(nodes, nodes_used, f.node, f.len)
+        || !nodes::field_ok(nodes, nodes_used, g.node, g.len)
+    {
+        return Err(Refusal::BadField);
     }
-    if !nodes::field_ok(nodes, nodes_used, g.node, g.len) {
-        return refusal::BAD_FIELD;
-    }
-    0
+    Ok(())
 }
 
 // Whether so many more nodes fit, by slice and limit.
@@ -114,7 +102,7 @@ fn node_room(nodes: &[u32], used: usize, made: usize) -> bool
 // ---- calls ----
 
 // The runs of a list as one field of `len` terms, if the nodes fit.
-fn chained(nodes: &mut [u32], count: &mut usize, runs: &[u32], len: usize) -> Answer
+fn chained(nodes: &mut [u32], count: &mut usize, runs: &[u32], len: usize) -> Result<Field, Refusal>
     requires store { RunStore nodes.old count.old runs.now }
     requires size { len ≡ total (records run_layout runs.now) }
     ensures { let before = nodes.old in
@@ -123,16 +111,16 @@ fn chained(nodes: &mut [u32], count: &mut usize, runs: &[u32], len: usize) -> An
         (answer_of result, nodes.new, count.new) ≡ grown_by before used built }
 {
     if len == 0 {
-        return Answer::Built(Field::EMPTY);
+        return Ok(Field::EMPTY);
     }
     let used = *count;
     let made = from_runs::from_runs_makes(runs);
     if !node_room(nodes, used, made) {
-        return Answer::Refused(refusal::NODES_FULL);
+        return Err(Refusal::NodesFull);
     }
     let node = from_runs::from_runs_build(nodes, used, runs);
     *count = used + made;
-    Answer::Built(Field::new(node, len))
+    Ok(Field::new(node, len))
 }
 
 // The terms of runs, in order.
@@ -143,12 +131,12 @@ pub fn from_runs(
     nodes: &mut [u32],
     nodes_used: &mut usize,
     runs: &[u32],
-) -> Answer
+) -> Result<Field, Refusal>
     ensures { let before = store_of names.now terms.now terms_used nodes.old nodes_used.old in
         let after = store_of names.now terms.now terms_used nodes.new nodes_used.new in
         leaves (answer_of result) after ≡ step before (call_from_runs runs.now) }
 {
-    let number = check(
+    check(
         names,
         terms,
         terms_used,
@@ -157,16 +145,13 @@ pub fn from_runs(
         from_runs::runs_even(runs),
         Field::EMPTY,
         Field::EMPTY,
-    );
-    if number != 0 {
-        return Answer::Refused(number);
-    }
+    )?;
     if !from_runs::runs_inside(runs, terms_used) {
-        return Answer::Refused(refusal::PAST_END);
+        return Err(Refusal::PastEnd);
     }
     let len = from_runs::runs_total(runs);
     if words::LIMIT < len {
-        return Answer::Refused(refusal::TOO_LONG);
+        return Err(Refusal::TooLong);
     }
     chained(nodes, nodes_used, runs, len)
 }
@@ -180,11 +165,11 @@ pub fn take(
     nodes_used: usize,
     f: Field,
     n: usize,
-) -> Answer
+) -> Result<Field, Refusal>
     ensures { let store = store_of names.now terms.now terms_used nodes.now nodes_used in
         leaves (answer_of result) store ≡ step store (call_take (as_field f) n) }
 {
-    let number = check(
+    check(
         names,
         terms,
         terms_used,
@@ -193,18 +178,15 @@ pub fn take(
         true,
         f,
         Field::EMPTY,
-    );
-    if number != 0 {
-        return Answer::Refused(number);
-    }
+    )?;
     if f.len < n {
-        return Answer::Refused(refusal::PAST_END);
+        return Err(Refusal::PastEnd);
     }
-    Answer::Built(f.clamped(n))
+    Ok(f.clamped(n))
 }
 
 // The field without its first k terms, if the nodes fit.
-fn dropped(nodes: &mut [u32], count: &mut usize, f: Field, k: usize) -> Answer
+fn dropped(nodes: &mut [u32], count: &mut usize, f: Field, k: usize) -> Result<Field, Refusal>
     requires store { AnyStore nodes.old count.old }
     requires reaches { Reaches nodes.old count.old f.node f.len × (k ≤ f.len) }
     ensures { let before = nodes.old in
@@ -215,11 +197,11 @@ fn dropped(nodes: &mut [u32], count: &mut usize, f: Field, k: usize) -> Answer
     let used = *count;
     let made = drop_front::drop_front_makes(nodes, f.node, k);
     if !node_room(nodes, used, made) {
-        return Answer::Refused(refusal::NODES_FULL);
+        return Err(Refusal::NodesFull);
     }
     let node = drop_front::drop_front_build(nodes, used, f.node, k, used + made);
     *count = used + made;
-    Answer::Built(Field::new(node, f.len - k))
+    Ok(Field::new(node, f.len - k))
 }
 
 // A field without its first k terms.
@@ -231,12 +213,12 @@ pub fn rest(
     nodes_used: &mut usize,
     f: Field,
     k: usize,
-) -> Answer
+) -> Result<Field, Refusal>
     ensures { let before = store_of names.now terms.now terms_used nodes.old nodes_used.old in
         let after = store_of names.now terms.now terms_used nodes.new nodes_used.new in
         leaves (answer_of result) after ≡ step before (call_rest (as_field f) k) }
 {
-    let number = check(
+    check(
         names,
         terms,
         terms_used,
@@ -245,12 +227,9 @@ pub fn rest(
         true,
         f,
         Field::EMPTY,
-    );
-    if number != 0 {
-        return Answer::Refused(number);
-    }
+    )?;
     if f.len < k {
-        return Answer::Refused(refusal::PAST_END);
+        return Err(Refusal::PastEnd);
     }
     dropped(nodes, nodes_used, f, k)
 }
@@ -265,12 +244,12 @@ pub fn range(
     f: Field,
     k: usize,
     n: usize,
-) -> Answer
+) -> Result<Field, Refusal>
     ensures { let before = store_of names.now terms.now terms_used nodes.old nodes_used.old in
         let after = store_of names.now terms.now terms_used nodes.new nodes_used.new in
         leaves (answer_of result) after ≡ step before (call_range (as_field f) k n) }
 {
-    let number = check(
+    check(
         names,
         terms,
         terms_used,
@@ -279,24 +258,16 @@ pub fn range(
         true,
         f,
         Field::EMPTY,
-    );
-    if number != 0 {
-        return Answer::Refused(number);
+    )?;
+    if f.len < k || f.len - k < n {
+        return Err(Refusal::PastEnd);
     }
-    if f.len < k {
-        return Answer::Refused(refusal::PAST_END);
-    }
-    if f.len - k < n {
-        return Answer::Refused(refusal::PAST_END);
-    }
-    match dropped(nodes, nodes_used, f, k) {
-        Answer::Built(g) => Answer::Built(g.clamped(n)),
-        Answer::Refused(m) => Answer::Refused(m),
-    }
+    let g = dropped(nodes, nodes_used, f, k)?;
+    Ok(g.clamped(n))
 }
 
 // The left's terms, then the right's, if the nodes fit. An empty operand gives the other as it is.
-fn joined(nodes: &mut [u32], count: &mut usize, f: Field, g: Field) -> Answer
+fn joined(nodes: &mut [u32], count: &mut usize, f: Field, g: Field) -> Result<Field, Refusal>
     requires store { AnyStore nodes.old count.old }
     requires left { Reaches nodes.old count.old f.node f.len }
     requires right { Reaches nodes.old count.old g.node g.len × (f.len + g.len ≤ limit) }
@@ -306,21 +277,21 @@ fn joined(nodes: &mut [u32], count: &mut usize, f: Field, g: Field) -> Answer
         (answer_of result, nodes.new, count.new) ≡ grown_by before used built }
 {
     if f.len == 0 {
-        return Answer::Built(g);
+        return Ok(g);
     }
     if g.len == 0 {
-        return Answer::Built(f);
+        return Ok(f);
     }
     let used = *count;
     let right = nodes::unclamp(nodes, g.node, g.len);
     let r = words::get::<Node>(nodes, right);
     let made = join::join_makes(nodes, r.height, f.node, f.len);
     if !node_room(nodes, used, made) {
-        return Answer::Refused(refusal::NODES_FULL);
+        return Err(Refusal::NodesFull);
     }
     join::join_build(nodes, used, right, f.node, f.len, used + made);
     *count = used + made;
-    Answer::Built(Field::new(used + made - 1, f.len + g.len))
+    Ok(Field::new(used + made - 1, f.len + g.len))
 }
 
 // Two fields as one: the left's terms, then the right's.
@@ -332,20 +303,14 @@ pub fn join(
     nodes_used: &mut usize,
     f: Field,
     g: Field,
-) -> Answer
+) -> Result<Field, Refusal>
     ensures { let before = store_of names.now terms.now terms_used nodes.old nodes_used.old in
         let after = store_of names.now terms.now terms_used nodes.new nodes_used.new in
         leaves (answer_of result) after ≡ step before (call_join (as_field f) (as_field g)) }
 {
-    let number = check(names, terms, terms_used, nodes, *nodes_used, true, f, g);
-    if number != 0 {
-        return Answer::Refused(number);
-    }
-    if words::LIMIT < f.len {
-        return Answer::Refused(refusal::TOO_LONG);
-    }
-    if words::LIMIT - f.len < g.len {
-        return Answer::Refused(refusal::TOO_LONG);
+    check(names, terms, terms_used, nodes, *nodes_used, true, f, g)?;
+    if words::LIMIT < f.len || words::LIMIT - f.len < g.len {
+        return Err(Refusal::TooLong);
     }
     joined(nodes, nodes_used, f, g)
 }

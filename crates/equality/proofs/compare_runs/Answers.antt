@@ -1,0 +1,41 @@
+-- A store that `check_terms` lets pass is one that comparing asks for; each exit is one law of the answer.
+use Rattle.std.proofs.Common.{arith, refl}
+use Rattle.std.proofs.lemmas.Result.{err_from_is_err_and}
+use Rattle.words.specs.Refusals.{told_number, spec_number}
+use Rattle.words.proofs.RefusalLaws.{number_some}
+use Rattle.value.specs.EqualLaws.{store_of, store_few}
+use Rattle.equality.specs.Compare.{answer_of}
+use Rattle.equality.specs.CompareLaws.{compared-refused, compared-first, compared_second, compared_both}
+use Rattle.equality.proofs.compare_runs.Goals as goal
+use Rattle.equality.proofs.compare_runs.Goals.{then-used-n-via-then-used-n, then-used-n-via-else-used-n+then-used-n-2}
+use Rattle.equality.proofs.compare_runs.Goals.{then-used-m-via-then-used-m, then-used-m-via-else-used-m+then-used-m-2}
+
+pub returns-in_err-check_terms : goal.returns-in_err-check_terms
+unfolding answer_of told_number
+returns-in_err-check_terms c =
+    let p = err_from_is_err_and c.from_residual.result c.from_residual.ensures.1 in
+    rw (p.1, p.2) (compared-refused _ _ _ _ _ _ _ c.in_err-check_terms.ensures (number_some _))
+
+pub returns-then-used-n : goal.returns-then-used-n
+unfolding answer_of told_number spec_number
+returns-then-used-n c = elim c.then-used-n.branch [
+  | then-used-n-via-then-used-n w ↦ compared-first _ _ _ _ _ _ _ c.in_ok-check_terms.ensures refl (omega arith)
+  | then-used-n-via-else-used-n+then-used-n-2 w ↦ compared-first _ _ _ _ _ _ _ c.in_ok-check_terms.ensures refl (omega arith)
+]
+
+pub returns-then-used-m : goal.returns-then-used-m
+unfolding answer_of told_number spec_number
+returns-then-used-m c = elim c.then-used-m.branch [
+  | then-used-m-via-then-used-m w ↦ compared_second _ _ _ _ _ _ _ c.in_ok-check_terms.ensures refl (omega arith) (omega arith)
+  | then-used-m-via-else-used-m+then-used-m-2 w ↦ compared_second _ _ _ _ _ _ _ c.in_ok-check_terms.ensures refl (omega arith) (omega arith)
+]
+
+pub equal_alone-requires : goal.equal_alone-requires
+unfolding told_number
+equal_alone-requires c =
+    let e = c.in_ok-check_terms.ensures in
+    record { store = store_of _ _ _ e refl; few = store_few _ _ _ e refl; first = omega arith; second = omega arith }
+
+pub returns : goal.returns
+unfolding answer_of told_number
+returns c = compared_both _ _ _ _ _ _ _ c.in_ok-check_terms.ensures refl (omega arith) (omega arith) c.equal_alone.ensures
