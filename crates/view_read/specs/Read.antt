@@ -1,36 +1,36 @@
 -- The answers of the calls that read, as the specification has them; what flatten and settling leave.
-use Rattle.std.specs.Prelude.{List, [], Bool, true, false, leb, length, take, drop, ℕ, ◌+◌, ◌*◌}
+use Rattle.std.specs.Prelude.{Option, Some, None, Result, Ok, Err, List, [], Bool, true, false, leb, length, take, drop, ℕ, ◌+◌, ◌*◌}
 use Rattle.term_spec.specs.Words.{count, write}
 use Rattle.term_spec.specs.Term.{Term, term_layout, Run as SpecRun}
 use Rattle.view_spec.specs.Read.{Place as SpecPlace, stored, scattered}
 use Rattle.calls_spec.specs.Store.{Store, capacity}
 use Rattle.calls_spec.specs.Step.{Answer, refused, truth, in_store, in_work, Shown, nothing, of_store, of_work, shown_by, After}
 use Rattle.words.specs.Records.{as_run}
-use Rattle.view_read.specs.declared.Verdict.{Verdict}
-use Rattle.view_read.specs.declared.Verdict.TheVariants.{Yes, No, Refused as RefusedVerdict}
-use Rattle.view_read.specs.declared.Place.{Place}
-use Rattle.view_read.specs.declared.Place.TheVariants.{Stored, Scattered}
+use Rattle.words.specs.declared.Run.{Run}
+use Rattle.words.specs.declared.refusal.Refusal.{Refusal}
+use Rattle.words.specs.Refusals.{spec_number}
 use Rattle.view_read.specs.declared.Flat.{Flat}
-use Rattle.view_read.specs.declared.Flat.TheVariants.{InStore, InWork, Refused as RefusedFlat}
-use Rattle.view_read.specs.declared.Settled.{Settled}
-use Rattle.view_read.specs.declared.Settled.TheVariants.{At, Refused as RefusedSettled}
+use Rattle.view_read.specs.declared.Flat.TheVariants.{InStore, InWork}
 
 -- 01's number, or yes or no, for each case.
-unfoldable pub verdict_of : Verdict → Answer
-verdict_of Yes = truth true
-verdict_of No = truth false
-verdict_of (RefusedVerdict n) = refused n
+unfoldable pub verdict_of : Result Bool Refusal → Answer
+verdict_of (Ok b) = truth b
+verdict_of (Err r) = refused (spec_number r)
 
 -- A place of the code, as the specification has it.
-unfoldable pub spec_place_of : Place → SpecPlace
-spec_place_of (Stored r) = stored (as_run r)
-spec_place_of Scattered = scattered
+unfoldable pub spec_place_of : Option Run → SpecPlace
+spec_place_of (Some r) = stored (as_run r)
+spec_place_of None = scattered
 
--- 01's number, or where the terms are, for each case.
-unfoldable pub flat_of : Flat → Answer
-flat_of (InStore r) = in_store (as_run r)
-flat_of (InWork n) = in_work n
-flat_of (RefusedFlat n) = refused n
+-- Where the terms are, for each case.
+unfoldable pub found_of : Flat → Answer
+found_of (InStore r) = in_store (as_run r)
+found_of (InWork n) = in_work n
+
+-- 01's number, or where the terms are.
+unfoldable pub flat_of : Result Flat Refusal → Answer
+flat_of (Ok f) = found_of f
+flat_of (Err r) = refused (spec_number r)
 
 -- What a call leaves that is lent a work buffer and no slots.
 unfoldable pub leaves_work : Answer → Store → List ℕ → After
@@ -56,9 +56,9 @@ unfoldable pub flat_words : Answer → List ℕ → List ℕ → List ℕ
 flat_words a terms work = shown_words (shown_by a) terms work
 
 -- 01's number, or the run, for each case.
-unfoldable pub settled_of : Settled → Answer
-settled_of (At r) = in_store (as_run r)
-settled_of (RefusedSettled n) = refused n
+unfoldable pub settled_of : Result Run Refusal → Answer
+settled_of (Ok r) = in_store (as_run r)
+settled_of (Err r) = refused (spec_number r)
 
 -- What settling leaves: its answer, the words of the terms and their count. "13 TermsFull: a settled copy exceeds the unused terms."
 unfoldable pub settled_if : Bool → List ℕ → ℕ → List Term → SpecRun → Answer × List ℕ × ℕ
