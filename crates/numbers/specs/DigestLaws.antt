@@ -84,12 +84,11 @@ module _ (base : ℕ) where
   pub digest_next : (l : List ℕ) (i : ℕ) → i < length l → digest base (take (i + 1) l) ≡ more base (digest base (take i l)) (get_or l i 0)
   digest_next l i h = ap (digest base) (rw (add-one, take-suc l i 0)) ∙ digest-more _ _
 
-  pub text_next : (f : ℕ → ℕ) (names : List ℕ) (o i : ℕ) → o + i < length names
-      → digest base (map f (text_at names o (i + 1))) ≡ more base (digest base (map f (text_at names o i))) (f (get_or names (o + i) 0))
-  text_next f names o i h =
-      let within : i < length (drop o names) = rw length-drop (omega arith) in
-      let longer : text_at names o (i + 1) ≡ text_at names o i ++ (get_or names (o + i) 0 ∷ []) = rw (add-one, take-suc (drop o names) i 0, get_or-drop) in
-      ap (λ t. digest base (map f t)) longer ∙ ap (digest base) (map-append f (text_at names o i) _) ∙ digest-more _ _
+  pub text_next : (f : ℕ → ℕ) (text : List ℕ) (i : ℕ) → i < length text
+      → digest base (map f (take (i + 1) text)) ≡ more base (digest base (map f (take i text))) (f (get_or text i 0))
+  text_next f text i h =
+      let longer : take (i + 1) text ≡ take i text ++ (get_or text i 0 ∷ []) = rw (add-one, take-suc text i 0) in
+      ap (λ t. digest base (map f t)) longer ∙ ap (digest base) (map-append f (take i text) _) ∙ digest-more _ _
 
   -- What a list goes on from is multiplied by the base for each of its numbers.
   digest_from-parts : (h : ℕ) (b : List ℕ) → h < prime → digest_from base h b ≡ (h * base ^ length b + digest base b) % prime
