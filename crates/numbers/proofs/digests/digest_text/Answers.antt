@@ -1,5 +1,5 @@
 -- One byte more changes the digest by what it counts for.
-use Rattle.std.proofs.Common.{rules, refl, sym, ap₂, arith, ◌∙◌}
+use Rattle.std.proofs.Common.{refl, sym, ap₂, arith, ◌∙◌}
 use Rattle.numbers.specs.Digest.{digest_from, more, counts}
 use Rattle.numbers.specs.DigestLaws.{below-prime, text_next}
 use Rattle.numbers.proofs.digests.digest_text.Goals as goal
