@@ -98,7 +98,8 @@ fn equal_lowered(a: &[u8], b: &[u8]) -> bool
     a.iter().zip(b).all(|(&c, &d)| lower(c) == lower(d))
 }
 
-// Whether two identifiers are equal: ASCII case is ignored.
+// Whether two identifiers are equal: ASCII case is ignored. Copied into the comparison of symbols, it would have registers saved for chars too.
+#[inline(never)]
 #[tactic(auto, using(crate::specs::TextLaws::identifier_tests))]
 pub fn same_identifiers(a: &[u8], b: &[u8]) -> bool
     ensures { result ≡ identifiers_equal a.now b.now }
