@@ -1,7 +1,7 @@
 -- Laws of digests: they are below the prime, a list's is had from those of its parts, and leading zeros change none. And laws of the marks.
 use Rattle.std.specs.Prelude.{◌≡◌, Bool, take, drop, get_or, set, replicate}
 use Rattle.std.proofs.Math.Path.{refl, ap, sym}
-use Rattle.std.proofs.Common.{◌∙◌, ⊎_elim, le-leb, eqb→eq, length-set, length-drop, pow-add, take-add, take-suc, get_or-drop, get_or-set_same, get_or-set_other, eq-or-lt_of_le, add-mul, mul_comm, mul-le-mul, pow-suc, add-one}
+use Rattle.std.proofs.Common.{◌∙◌, ⊎_elim, le-leb, eqb→eq, length-set, pow-add, take-add, take-suc, get_or-set_same, get_or-set_other, eq-or-lt_of_le, add-mul, mul_comm, mul-le-mul, pow-suc, add-one}
 use mathlib.Core.List.{List, [], ◌∷◌, ◌++◌, map, map-append}
 use Rattle.std.proofs.Math.Bool.{true, false}
 use Rattle.std.proofs.lemmas.Bool.{lt-leb}
@@ -12,7 +12,7 @@ use Rattle.std.proofs.Math.Nat.{add_assoc, mul_assoc, pow-zero, pow-succ', div-a
 use native.Mathlib.Omega.{arith}
 use Rattle.term_spec.proofs.BoolLaws.{true-T}
 use Rattle.term_spec.proofs.ListLaws.{zeros-at, part_length}
-use Rattle.term_spec.specs.Text.{lower, zero_digit, is_zero, stripped, text_at}
+use Rattle.term_spec.specs.Text.{lower, zero_digit, is_zero, stripped}
 use Rattle.numbers.specs.Digest.{prime, stride, more, digest_from, digest, digit, Marked}
 
 -- ---- arithmetic modulo the prime ----
@@ -84,12 +84,11 @@ module _ (base : ℕ) where
   pub digest_next : (l : List ℕ) (i : ℕ) → i < length l → digest base (take (i + 1) l) ≡ more base (digest base (take i l)) (get_or l i 0)
   digest_next l i h = ap (digest base) (rw (add-one, take-suc l i 0)) ∙ digest-more _ _
 
-  pub text_next : (f : ℕ → ℕ) (names : List ℕ) (o i : ℕ) → o + i < length names
-      → digest base (map f (text_at names o (i + 1))) ≡ more base (digest base (map f (text_at names o i))) (f (get_or names (o + i) 0))
-  text_next f names o i h =
-      let within : i < length (drop o names) = rw length-drop (omega arith) in
-      let longer : text_at names o (i + 1) ≡ text_at names o i ++ (get_or names (o + i) 0 ∷ []) = rw (add-one, take-suc (drop o names) i 0, get_or-drop) in
-      ap (λ t. digest base (map f t)) longer ∙ ap (digest base) (map-append f (text_at names o i) _) ∙ digest-more _ _
+  pub text_next : (f : ℕ → ℕ) (text : List ℕ) (i : ℕ) → i < length text
+      → digest base (map f (take (i + 1) text)) ≡ more base (digest base (map f (take i text))) (f (get_or text i 0))
+  text_next f text i h =
+      let longer : take (i + 1) text ≡ take i text ++ (get_or text i 0 ∷ []) = rw (add-one, take-suc text i 0) in
+      ap (λ t. digest base (map f t)) longer ∙ ap (digest base) (map-append f (take i text) _) ∙ digest-more _ _
 
   -- What a list goes on from is multiplied by the base for each of its numbers.
   digest_from-parts : (h : ℕ) (b : List ℕ) → h < prime → digest_from base h b ≡ (h * base ^ length b + digest base b) % prime

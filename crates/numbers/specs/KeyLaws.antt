@@ -1,6 +1,7 @@
 -- Laws of keys: the digest of a term by its kind.
 use Rattle.std.specs.Prelude.{◌≡◌, List, [], ◌∷◌, map, length, ℕ, suc, zero, ◌+◌, ◌<◌, ◌≤◌}
 use Rattle.std.proofs.Math.Path.{refl}
+use Rattle.term_spec.proofs.ListLaws.{part_slice}
 use Rattle.term_spec.specs.Text.{lower, text_at}
 use Rattle.term_spec.specs.Term.{Term, part, contents_run, identifier_kind, number_kind, bracket_kind}
 use Rattle.value.specs.Equal.{InNames}
@@ -36,6 +37,9 @@ key_words base zero names t h k = refl
 key_words base (suc zero) names t h k = absurd (h refl)
 key_words base (suc (suc zero)) names t h k = absurd (k refl)
 key_words base (suc (suc (suc j))) names t h k = refl
+
+-- These, in one, with what a slice of the names is.
+pub ruleset symbol_keys = (identifier_lies, number-lies, key_identifier, key_number, key_words, part_slice)
 
 -- A bracket's digest, and any other term's.
 pub key_bracket :

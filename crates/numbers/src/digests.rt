@@ -1,6 +1,6 @@
 // Digests of lists of numbers: polynomials modulo a prime. They say where to look for what is equal.
 ghost use Rattle.std.specs.Prelude.{◌≡◌, map, ◌+◌, ◌%◌, ◌^◌, ◌<◌, ◌≤◌, length, get_or, take, drop};
-ghost use Rattle.term_spec.specs.Text.{lower, text_at};
+ghost use Rattle.term_spec.specs.Text.{lower};
 ghost use Rattle.term_spec.specs.Term.{limit};
 ghost use Rattle.numbers.specs.Digest.{prime, more, digest, digit, counts, Marked};
 
@@ -57,16 +57,14 @@ fn counted(digits: bool, b: u8) -> usize
     lowered(b)
 }
 
-// The digest of the n bytes at o: digits, or the bytes of an identifier, with ASCII case ignored.
-pub fn digest_text(names: &[u8], base: usize, digits: bool, o: usize, n: usize) -> usize
-    requires { (base < prime) × (o + n ≤ length names.now) }
-    ensures { result ≡ digest base (map (counts digits) (text_at names.now o n)) }
+// The digest of a text: digits, or the bytes of an identifier, with ASCII case ignored.
+pub fn digest_text(text: &[u8], base: usize, digits: bool) -> usize
+    requires { base < prime }
+    ensures { result ≡ digest base (map (counts digits) text.now) }
 {
     let mut h = 0;
-    let mut i = 0;
-    while i < n {
-        h = mix(base, h, counted(digits, names[o + i]));
-        i += 1;
+    for &b in text {
+        h = mix(base, h, counted(digits, b));
     }
     h
 }

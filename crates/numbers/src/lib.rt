@@ -35,15 +35,16 @@ pub fn enter(heads: &mut [u32], earlier: &mut [u16], b: usize, k: usize)
 // ---- keys ----
 
 // The digest of a term that is no bracket.
+#[tactic(auto, using(crate::specs::KeyLaws::symbol_keys), unfolding(crate::specs::Digest::more, crate::specs::Digest::digest_from))]
 fn symbol_digest(names: &[u8], base: usize, t: Term) -> usize
     requires { (base < prime) × Readable names.now t }
     ensures { result ≡ symbol_key base t.kind names.now (as_term t) }
 {
     if t.kind == words::IDENTIFIER {
-        return digests::digest_text(names, base, false, t.a, t.b);
+        return digests::digest_text(&names[t.a..t.a + t.b], base, false);
     }
     if t.kind == words::NUMBER {
-        return digests::digest_text(names, base, true, t.a, t.b);
+        return digests::digest_text(&names[t.a..t.a + t.b], base, true);
     }
     digests::mix(
         base,

@@ -11,11 +11,12 @@ use items::Binding;
 // ---- looking up one name ----
 
 // The bucket of a name, by its text's digest at a base. Names that are one have one bucket.
+#[tactic(auto, using(term_spec::proofs::ListLaws::part_slice), unfolding(crate::specs::Apart::spec_bucket_of))]
 fn bucket_of(names: &[u8], base: usize, o: usize, n: usize) -> usize
     requires { (base < prime) × (o + n ≤ length names.now) }
     ensures { result ≡ spec_bucket_of base names.now o n }
 {
-    numbers::digests::digest_text(names, base, false, o, n) % numbers::BUCKETS
+    numbers::digests::digest_text(&names[o..o + n], base, false) % numbers::BUCKETS
 }
 
 // Whether a name was found, and how many others were looked at in vain.

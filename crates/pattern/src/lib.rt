@@ -139,6 +139,7 @@ pub fn is_variable(kind: usize) -> bool
 }
 
 // Whether two names are one, each given by its kind and its text's offset and length.
+#[tactic(auto, using(term_spec::proofs::ListLaws::part_slice, crate::specs::NameLaws::kinds_apart, crate::specs::NameLaws::same_kinds))]
 fn same_name(
     names: &[u8],
     kind: usize,
@@ -154,7 +155,7 @@ fn same_name(
     if kind != other {
         return false;
     }
-    text::same_identifiers(names, o, n, p, m)
+    text::same_identifiers(&names[o..o + n], &names[p..p + m])
 }
 
 // The place of a name among the first `count` bindings, `count` if it is not there.

@@ -63,6 +63,10 @@ part-kept X Y s n h = ap (take n) (drop-append-le s X Y (omega arith)) ∙ take-
 pub part_length : {A : Type 0} (X : List A) (s n : ℕ) → s + n ≤ length X → length (take n (drop s X)) ≡ n
 part_length X s n h = length-take-le n (drop s X) (rw length-drop (omega arith))
 
+-- The n entries from s on, as the slice from s to s + n has them.
+pub part_slice : {A : Type 0} (X : List A) (s n : ℕ) → take (s + n - s) (drop s X) ≡ take n (drop s X)
+part_slice X s n = let z : s + n - s ≡ n = omega arith in rw z refl
+
 -- take and drop over a cut beginning and what follows it.
 pub take_left : {X : Type 0} (n b : ℕ) (A C : List X) → n ≤ b → b ≤ length A → take n (take b A ++ C) ≡ take n A
 take_left n b A C h k = take-append-le n (take b A) C (rw (length-take-le b A k) h) ∙ take-take n b A h

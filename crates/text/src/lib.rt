@@ -1,76 +1,32 @@
-// Texts: parts of the names, what they spell, and comparing them. `lower` and `same_numbers` alone know how a letter is lowered and how two
-// numbers compare.
+// Texts: what the bytes of a name spell, and comparing them. `lower` and `same_numbers` alone know how a letter is lowered and how two numbers compare.
 #![tactic(auto)]
 
 ghost use Rattle.std.specs.Prelude.{◌≡◌, true, false, ◌+◌, ◌<◌, ◌≤◌, length};
-ghost use Rattle.term_spec.specs.Text.{spec_is_letter, spec_is_digit, spec_is_name_byte, every, is_zero, lower as lowered, text_at, text_rule};
-ghost use Rattle.text.specs.Texts.{byte_test, spelled, spelling, texts_equal, identifiers_equal, numbers_equal};
-ghost use Rattle.text.specs.LowerTable.{lowered_bytes};
-
-fn is_letter(c: u8) -> bool
-    ensures { result ≡ spec_is_letter c }
-{
-    if c < b'A' {
-        return false;
-    }
-    if c <= b'Z' {
-        return true;
-    }
-    if c < b'a' {
-        return false;
-    }
-    c <= b'z'
-}
-
-fn is_digit(c: u8) -> bool
-    ensures { result ≡ spec_is_digit c }
-{
-    if c < b'0' {
-        return false;
-    }
-    c <= b'9'
-}
+ghost use Rattle.std.specs.List.{list_all};
+ghost use Rattle.term_spec.specs.Text.{spec_is_name_byte, spec_is_digit, is_zero, lower as lowered, text_rule};
+ghost use Rattle.text.specs.Texts.{spelling, texts_equal, identifiers_equal, numbers_equal};
 
 // A letter, a digit, `-` or `_`.
+#[tactic(auto, unfolding(term_spec::specs::Text::spec_is_name_byte, term_spec::specs::Text::spec_is_letter, term_spec::specs::Text::spec_is_digit))]
 fn is_name_byte(c: u8) -> bool
     ensures { result ≡ spec_is_name_byte c }
 {
-    if is_letter(c) {
-        return true;
-    }
-    if is_digit(c) {
-        return true;
-    }
-    if c == b'-' {
-        return true;
-    }
-    c == b'_'
+    c.is_ascii_alphanumeric() || matches!(c, b'-' | b'_')
 }
 
-// A byte of a number's text, or of a name.
-fn fits_byte(digits: bool, c: u8) -> bool
-    ensures { result ≡ byte_test digits c }
+// Whether the bytes are all of names.
+fn all_name_bytes(text: &[u8]) -> bool
+    ensures { result ≡ list_all spec_is_name_byte text.now }
 {
-    if digits {
-        return is_digit(c);
-    }
-    is_name_byte(c)
+    text.iter().all(|&c| is_name_byte(c))
 }
 
-// Whether the n bytes at o are all digits, or all bytes of a name.
-fn all_bytes(names: &[u8], digits: bool, o: usize, n: usize) -> bool
-    requires { o + n ≤ length names.now }
-    ensures { result ≡ spelled digits (text_at names.now o n) }
+// Whether the bytes are all digits.
+#[tactic(auto, unfolding(term_spec::specs::Text::spec_is_digit))]
+fn all_digits(text: &[u8]) -> bool
+    ensures { result ≡ list_all spec_is_digit text.now }
 {
-    let mut i = 0;
-    while i < n {
-        let c = names[o + i];
-        if !fits_byte(digits, c) {
-            return false;
-        }
-        i += 1;
-    }
-    true
+    text.iter().all(|c| c.is_ascii_digit())
 }
 
 // The kind of text that is a variable's name; kinds of terms are those of the other texts.
@@ -79,48 +35,37 @@ pub const NAME: usize = 3;
 // The most bytes of a text.
 const TEXT_LIMIT: usize = 255;
 
-// Whether the n bytes at o spell what a record of this kind asks: an identifier, a number, else a variable's name.
-fn spells(names: &[u8], kind: usize, o: usize, n: usize) -> bool
-    requires { (1 ≤ n) × (o + n ≤ length names.now) }
-    ensures { result ≡ spelling kind (text_at names.now o n) }
+// Whether a text spells what a record of this kind asks: an identifier, a number, else a variable's name.
+#[tactic(auto, using(crate::specs::TextLaws::spellings), unfolding(term_spec::specs::Text::spec_is_letter))]
+fn spells(text: &[u8], kind: usize) -> bool
+    ensures { result ≡ spelling kind text.now }
 {
-    if kind == words::IDENTIFIER {
-        let c = names[o];
-        if !is_letter(c) {
-            return false;
-        }
-        return all_bytes(names, false, o + 1, n - 1);
+    match kind {
+        words::IDENTIFIER => match text {
+            [first, rest @ ..] => first.is_ascii_alphabetic() && all_name_bytes(rest),
+            [] => false,
+        },
+        words::NUMBER => all_digits(text),
+        _ => all_name_bytes(text),
     }
-    if kind == words::NUMBER {
-        return all_bytes(names, true, o, n);
-    }
-    all_bytes(names, false, o, n)
 }
 
 // The rule of a text: 1 to 255 bytes of the names, spelled as its kind asks.
+#[tactic(auto, using(crate::specs::TextLaws::rule_tests))]
 pub fn text_ok(names: &[u8], kind: usize, o: usize, n: usize) -> bool
     ensures { result ≡ text_rule (spelling kind) names.now o n }
 {
-    if n < 1 {
-        return false;
-    }
-    if TEXT_LIMIT < n {
-        return false;
-    }
-    if names.len() < n {
-        return false;
-    }
-    if names.len() - n < o {
-        return false;
-    }
-    spells(names, kind, o, n)
+    matches!(n, 1..=TEXT_LIMIT)
+        && n <= names.len()
+        && o <= names.len() - n
+        && spells(&names[o..o + n], kind)
 }
 
 // How many bytes there are.
 const BYTES: usize = 256;
 
 // The printed character chart with its capitals lowered: sixteen bytes to a line, each at its own place.
-const LOWERED: [u8; BYTES] = *b"\
+static LOWERED: [u8; BYTES] = *b"\
     \x00\x01\x02\x03\x04\x05\x06\x07\x08\x09\x0a\x0b\x0c\x0d\x0e\x0f\
     \x10\x11\x12\x13\x14\x15\x16\x17\x18\x19\x1a\x1b\x1c\x1d\x1e\x1f\
     \x20!\"#$%&'()*+,-./\
@@ -138,111 +83,60 @@ const LOWERED: [u8; BYTES] = *b"\
     \xe0\xe1\xe2\xe3\xe4\xe5\xe6\xe7\xe8\xe9\xea\xeb\xec\xed\xee\xef\
     \xf0\xf1\xf2\xf3\xf4\xf5\xf6\xf7\xf8\xf9\xfa\xfb\xfc\xfd\xfe\xff";
 
-// A byte with an ASCII capital lowered, as the chart has it. The chart is lent, since a function that names the constant copies it to its stack.
-fn lower(chart: &[u8; BYTES], c: u8) -> u8
-    requires { chart.now ≡ lowered_bytes }
+// A byte with an ASCII capital lowered, as the chart has it.
+fn lower(c: u8) -> u8
     ensures { result ≡ lowered c }
 {
-    chart[c as usize]
+    LOWERED[c as usize]
 }
 
-// Whether the n bytes at o and the n bytes at p are alike with ASCII case ignored.
-fn equal_lowered(names: &[u8], o: usize, p: usize, n: usize) -> bool
-    requires { (o + n ≤ length names.now) × (p + n ≤ length names.now) }
-    ensures { let text = text_at names.now in
-        result ≡ texts_equal true (text o n) (text p n) }
+// Whether two texts of one length are alike with ASCII case ignored.
+fn equal_lowered(a: &[u8], b: &[u8]) -> bool
+    requires { length a.now ≡ length b.now }
+    ensures { result ≡ texts_equal true a.now b.now }
 {
-    let chart = LOWERED;
-    let mut i = 0;
-    while i < n {
-        let c = lower(&chart, names[o + i]);
-        let d = lower(&chart, names[p + i]);
-        if c != d {
-            return false;
-        }
-        i += 1;
-    }
-    true
+    a.iter().zip(b).all(|(&c, &d)| lower(c) == lower(d))
 }
 
-// Whether the n bytes at o and the n bytes at p are the same.
-fn equal_bytes(names: &[u8], o: usize, p: usize, n: usize) -> bool
-    requires { (o + n ≤ length names.now) × (p + n ≤ length names.now) }
-    ensures { let text = text_at names.now in
-        result ≡ texts_equal false (text o n) (text p n) }
+// Whether two identifiers are equal: ASCII case is ignored. Copied into the comparison of symbols, it would have registers saved for chars too.
+#[inline(never)]
+#[tactic(auto, using(crate::specs::TextLaws::identifier_tests))]
+pub fn same_identifiers(a: &[u8], b: &[u8]) -> bool
+    ensures { result ≡ identifiers_equal a.now b.now }
 {
-    let mut i = 0;
-    while i < n {
-        if names[o + i] != names[p + i] {
-            return false;
-        }
-        i += 1;
-    }
-    true
-}
-
-// Whether two identifiers are equal, given by offset and length: ASCII case is ignored.
-pub fn same_identifiers(names: &[u8], o: usize, n: usize, p: usize, m: usize) -> bool
-    requires { (o + n ≤ length names.now) × (p + m ≤ length names.now) }
-    ensures { let text = text_at names.now in
-        result ≡ identifiers_equal (text o n) (text p m) }
-{
-    if n != m {
-        return false;
-    }
     // Most that are equal are spelled alike, and need no chart.
-    if equal_bytes(names, o, p, n) {
-        return true;
-    }
-    equal_lowered(names, o, p, n)
+    a.len() == b.len() && (a == b || equal_lowered(a, b))
 }
 
-// Whether the n bytes at o are all zeros.
-fn all_zeros(names: &[u8], o: usize, n: usize) -> bool
-    requires { o + n ≤ length names.now }
-    ensures { result ≡ every is_zero (text_at names.now o n) }
+// Whether the bytes are all zeros.
+fn all_zeros(text: &[u8]) -> bool
+    ensures { result ≡ list_all is_zero text.now }
 {
-    let mut i = 0;
-    while i < n {
-        if names[o + i] != b'0' {
-            return false;
-        }
-        i += 1;
-    }
-    true
+    text.iter().all(|&c| c == b'0')
 }
 
 // Whether two numbers of different lengths are equal: the longer has zeros, and then the other's digits. A last digit is no leading zero, so no text is
-// equal to an empty one. It calls itself, so the compiler keeps it out of the loops that compare, and copies only `same_numbers` into them.
-fn same_stripped(names: &[u8], o: usize, n: usize, p: usize, m: usize) -> bool
-    requires { (o + n ≤ length names.now) × (p + m ≤ length names.now) × (n ≡ m → ⊥) }
-    ensures { let text = text_at names.now in
-        result ≡ numbers_equal (text o n) (text p m) }
+// equal to an empty one. It stays out of the loops that compare, and they copy only `same_numbers`.
+#[inline(never)]
+#[tactic(auto, using(crate::specs::NumberLaws::numbers_stripped, crate::specs::TextLaws::bytes_same))]
+fn same_stripped(long: &[u8], short: &[u8]) -> bool
+    requires { length short.now < length long.now }
+    ensures { result ≡ numbers_equal long.now short.now }
 {
-    if n < m {
-        // Most have no zero to lose, and need no second call.
-        if names[p] != b'0' {
-            return false;
-        }
-        return same_stripped(names, p, m, o, n);
-    }
-    if m == 0 {
-        return false;
-    }
-    if !all_zeros(names, o, n - m) {
-        return false;
-    }
-    equal_bytes(names, o + (n - m), p, m)
+    let (surplus, rest) = long.split_at(long.len() - short.len());
+    !short.is_empty() && all_zeros(surplus) && rest == short
 }
 
-// Whether two numbers are equal, given by offset and length: leading zeros do not count.
-pub fn same_numbers(names: &[u8], o: usize, n: usize, p: usize, m: usize) -> bool
-    requires { (o + n ≤ length names.now) × (p + m ≤ length names.now) }
-    ensures { let text = text_at names.now in
-        result ≡ numbers_equal (text o n) (text p m) }
+// Whether two numbers are equal: leading zeros do not count.
+#[tactic(auto, using(crate::specs::NumberLaws::numbers_alike, crate::specs::NumberLaws::numbers_sym, crate::specs::TextLaws::bytes_same))]
+pub fn same_numbers(a: &[u8], b: &[u8]) -> bool
+    ensures { result ≡ numbers_equal a.now b.now }
 {
-    if n == m {
-        return equal_bytes(names, o, p, n);
+    if a.len() == b.len() {
+        a == b
+    } else if b.len() < a.len() {
+        same_stripped(a, b)
+    } else {
+        same_stripped(b, a)
     }
-    same_stripped(names, o, n, p, m)
 }

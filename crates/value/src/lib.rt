@@ -283,16 +283,17 @@ pub fn check_terms(names: &[u8], terms: &[u32], used: usize) -> Result<(), Refus
 // ---- symbols ----
 
 // Whether two terms of one kind are equal, a bracket being no such term.
+#[tactic(auto, using(crate::specs::EqualLaws::texts_lie, crate::specs::EqualLaws::symbols_other))]
 pub fn equal_symbols(names: &[u8], t: Term, u: Term) -> bool
     requires texts { Texts names.now (as_term t) (as_term u) }
     requires kinds { (t.kind ≡ u.kind) × (t.kind ≡ bracket_kind → ⊥) }
     ensures { result ≡ spec_equal_symbols names.now (as_term t) (as_term u) }
 {
     if t.kind == words::IDENTIFIER {
-        return text::same_identifiers(names, t.a, t.b, u.a, u.b);
+        return text::same_identifiers(&names[t.a..t.a + t.b], &names[u.a..u.a + u.b]);
     }
     if t.kind == words::NUMBER {
-        return text::same_numbers(names, t.a, t.b, u.a, u.b);
+        return text::same_numbers(&names[t.a..t.a + t.b], &names[u.a..u.a + u.b]);
     }
     if t.a != u.a {
         return false;
