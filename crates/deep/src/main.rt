@@ -10,7 +10,6 @@ mod calls;
 mod stores;
 
 use lines::Parsed;
-use sheet_write::Written;
 use std::rt::{Env, Files};
 use std::{fs, io, str};
 
@@ -245,8 +244,8 @@ fn answer_sheet(rt: &(impl Input + Print)) -> io::Result<()> {
     let n = lines::read_full(&mut rt.reader(), &mut text)?;
     let mut out = [0u8; sheet_job::LONGEST_ANSWER];
     match sheet_job::run_sheet(&text[..n], &mut out) {
-        Written::Bytes(k) => write(rt, lines::first(&out, k)),
-        Written::Refused(_) => Ok(()),
+        Ok(k) => write(rt, lines::first(&out, k)),
+        Err(_) => Ok(()),
     }
 }
 

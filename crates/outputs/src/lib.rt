@@ -17,11 +17,10 @@ ghost use Rattle.outputs.specs.SheetOutputs.{written_out, read_outs, counts_out,
 use equality::Compared;
 use listing::Matched;
 use sheet_form::Counts;
-use sheet_read::SheetRead;
-use sheet_write::Written;
 use view::Answer;
 use view_read::{Flat, Verdict};
 use words::refusal;
+use words::refusal::Refusal;
 
 // Of a call that hands back a field.
 pub fn put_field(a: Answer, node: &mut usize, len: &mut usize) -> usize
@@ -117,15 +116,15 @@ pub fn put_compared(c: Compared, equal: &mut usize) -> usize
 // ---- sheets ----
 
 // Of a call that writes a text.
-pub fn put_written(w: Written, written: &mut usize) -> usize
+pub fn put_written(w: Result<usize, Refusal>, written: &mut usize) -> usize
     ensures { (result, written.new) ≡ written_out (written_of w) written.old }
 {
     match w {
-        Written::Bytes(n) => {
+        Ok(n) => {
             *written = n;
             0
         }
-        Written::Refused(n) => n,
+        Err(r) => r.number(),
     }
 }
 
@@ -174,8 +173,8 @@ pub fn read_sheet(
         ((result, after), terms.new, pattern.new, runs.new) ≡ after_read words before }
 {
     match sheet_read::read_sheet(text, terms, pattern, runs) {
-        SheetRead::Refused(n) => n,
-        SheetRead::Counted(c) => {
+        Err(r) => r.number(),
+        Ok(c) => {
             put_counts(
                 c,
                 term_count,

@@ -1,7 +1,6 @@
 // The program `sheet` (01, "The sheet"): reads a sheet from standard input and prints its answer.
 #![tactic(auto)]
 
-use sheet_write::Written;
 use std::io;
 
 // The first n bytes go to standard output.
@@ -18,7 +17,7 @@ fn main(rt: HostRuntime) -> io::Result<()> {
     let n = lines::read_full(&mut rt.reader(), &mut text)?;
     let mut out = [0u8; sheet_job::LONGEST_ANSWER];
     match sheet_job::run_sheet(&text[..n], &mut out) {
-        Written::Bytes(k) => print(&rt, &out, k),
-        Written::Refused(_) => print(&rt, &out, 0),
+        Ok(k) => print(&rt, &out, k),
+        Err(_) => print(&rt, &out, 0),
     }
 }

@@ -13,15 +13,8 @@ pub const COLUMN: usize = 10;
 // Numbers are below it.
 pub const BEYOND: usize = 4294967296;
 
-// The byte that a line and the names end with, and the one that stands before a number.
-pub const NEWLINE: usize = 10;
-
-pub const SPACE: usize = 32;
-
-// The bytes of the digits.
-pub const FIRST_DIGIT: usize = 48;
-
-pub const LAST_DIGIT: usize = 57;
+// The byte that a line and the names end with.
+pub const NEWLINE: u8 = b'\n';
 
 // ---- lines ----
 
@@ -116,6 +109,7 @@ pub const MOST_ITEMS: usize = items::PATTERN_LIMIT;
 pub const MOST_RUNS: usize = words::RUN_LIST_LIMIT;
 
 // The counts of a sheet: terms, name bytes, pattern records, runs.
+// The limits are no invariant of it: a text may show any counts, and `names_part` of sheet_read takes any.
 #[derive(Clone, Copy)]
 pub struct Counts {
     pub terms: usize,
@@ -126,22 +120,18 @@ pub struct Counts {
 
 impl Counts {
     // None is over its limit.
+    #[tactic(auto, unfolding(sheet_spec::specs::Sheet::limits))]
     pub fn within_limits(self) -> bool
         ensures { result ≡ in_limits (as_counts self) }
     {
-        if MOST_TERMS < self.terms {
-            return false;
-        }
-        if MOST_NAMES < self.names {
-            return false;
-        }
-        if MOST_ITEMS < self.pattern {
-            return false;
-        }
-        self.runs <= MOST_RUNS
+        self.terms <= MOST_TERMS
+            && self.names <= MOST_NAMES
+            && self.pattern <= MOST_ITEMS
+            && self.runs <= MOST_RUNS
     }
 
     // Where the name bytes start.
+    #[tactic(auto, using(sheet_spec::proofs::SheetLaws::limits_facts))]
     pub fn names_start(self) -> usize
         requires { T (in_limits (as_counts self)) }
         ensures { result ≡ spec_names_start (as_counts self) }
@@ -150,6 +140,7 @@ impl Counts {
     }
 
     // Where the newline after them stands.
+    #[tactic(auto, using(sheet_spec::proofs::SheetLaws::limits_facts))]
     pub fn names_end(self) -> usize
         requires { T (in_limits (as_counts self)) }
         ensures { result ≡ spec_names_start (as_counts self) + self.names }
@@ -158,6 +149,7 @@ impl Counts {
     }
 
     // Where the pattern lines start.
+    #[tactic(auto, using(sheet_spec::proofs::SheetLaws::limits_facts))]
     pub fn pattern_start(self) -> usize
         requires { T (in_limits (as_counts self)) }
         ensures { result ≡ spec_pattern_start (as_counts self) }
@@ -166,6 +158,7 @@ impl Counts {
     }
 
     // Where the run lines start.
+    #[tactic(auto, using(sheet_spec::proofs::SheetLaws::limits_facts))]
     pub fn runs_start(self) -> usize
         requires { T (in_limits (as_counts self)) }
         ensures { result ≡ spec_runs_start (as_counts self) }
@@ -174,6 +167,7 @@ impl Counts {
     }
 
     // The bytes of the whole.
+    #[tactic(auto, using(sheet_spec::proofs::SheetLaws::limits_facts))]
     pub fn end(self) -> usize
         requires { T (in_limits (as_counts self)) }
         ensures { result ≡ sheet_end (as_counts self) }

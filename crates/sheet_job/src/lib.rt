@@ -14,10 +14,8 @@ ghost use Rattle.listing.specs.Match.{matched_of, request_of};
 ghost use Rattle.sheet_job.specs.Parts.{node_words, name_words, blank_slots, Candidates, listed_text, built_text};
 
 use listing::Matched;
-use sheet_read::SheetRead;
-use sheet_write::Written;
 use view::{Answer, Field};
-use words::refusal;
+use words::refusal::Refusal;
 
 // "It lends 65 nodes, 1,024 terms and 16 slots"
 const NODES: usize = 65;
@@ -52,14 +50,14 @@ pub const LONGEST_ANSWER: usize = sheet_form::LINE + sheet_form::LINE * SLOTS * 
 // ---- the lines of an answer ----
 
 // A refusal's line.
-fn print_refusal(number: usize, out: &mut [u8]) -> Written
+fn print_refusal(number: usize, out: &mut [u8]) -> Result<usize, Refusal>
     ensures { (written_of result, out.new) ≡ written (refusal_text number) out.old }
 {
     if out.len() < sheet_form::LINE {
-        return Written::Refused(refusal::WORK_SHORT);
+        return Err(Refusal::WorkShort);
     }
     sheet_write::write_line(out, 0, number, 0, 0, 0);
-    Written::Bytes(sheet_form::LINE)
+    Ok(sheet_form::LINE)
 }
 
 // The lines of n entries, k to a candidate, after the first line.
@@ -67,18 +65,22 @@ fn write_entries(slots: &[u32], k: usize, n: usize, out: &mut [u8])
     requires { (n ≤ listing_slots * k) × (2 * n ≤ length slots.now) × (line_bytes + line_bytes * n ≤ length out.old) }
     ensures { out.new ≡ laid_at out.old line_bytes (entry_lines k slots.now 0 n) }
 {
-    let mut i = 0;
-    while i < n {
+    for i in 0..n {
         let start = words::word(slots, words::RUN_WIDTH * i);
         let len = words::word(slots, words::RUN_WIDTH * i + 1);
         let at = sheet_form::LINE + sheet_form::LINE * i;
         sheet_write::write_line(out, at, i / k + 1, i % k + 1, start, len);
-        i += 1;
     }
 }
 
 // The line of a listing, then its c candidates of k entries.
-fn print_candidates(number: usize, c: usize, k: usize, slots: &[u32], out: &mut [u8]) -> Written
+fn print_candidates(
+    number: usize,
+    c: usize,
+    k: usize,
+    slots: &[u32],
+    out: &mut [u8],
+) -> Result<usize, Refusal>
     requires { Candidates c k (length slots.now) }
     ensures { let text = line (number ∷ c ∷ k ∷ 0 ∷ []) ++ entry_lines k slots.now 0 (c * k) in
         (written_of result, out.new) ≡ written text out.old }
@@ -86,22 +88,22 @@ fn print_candidates(number: usize, c: usize, k: usize, slots: &[u32], out: &mut 
     let n = c * k;
     let all = sheet_form::LINE + sheet_form::LINE * n;
     if out.len() < all {
-        return Written::Refused(refusal::WORK_SHORT);
+        return Err(Refusal::WorkShort);
     }
     sheet_write::write_line(out, 0, number, c, k, 0);
     write_entries(slots, k, n, out);
-    Written::Bytes(all)
+    Ok(all)
 }
 
 // What a listing prints.
-fn print_listing(m: Matched, slots: &[u32], out: &mut [u8]) -> Written
+fn print_listing(m: Matched, slots: &[u32], out: &mut [u8]) -> Result<usize, Refusal>
     requires { Fits (matched_of m) (length slots.now) }
     ensures { let text = listing_text (matched_of m) slots.now in
         (written_of result, out.new) ≡ written text out.old }
 {
     match m {
         Matched::Listed(c, k) => print_candidates(0, c, k, slots, out),
-        Matched::More(c, k) => print_candidates(refusal::MORE_THAN_FIT, c, k, slots, out),
+        Matched::More(c, k) => print_candidates(Refusal::MoreThanFit.number(), c, k, slots, out),
         Matched::Refused(n) => print_refusal(n, out),
     }
 }
@@ -119,7 +121,7 @@ fn list_into(
     pattern: &[u32],
     slots: &mut [u32],
     out: &mut [u8],
-) -> Written
+) -> Result<usize, Refusal>
     requires { length slots.old ≡ name_words * spec_name_count names.now pattern.now [] }
     ensures { let store = store_of names.now terms.old terms_used nodes.now nodes_used in
         let request = request_of (as_field f) pattern.now [] slots.old in
@@ -151,7 +153,7 @@ fn list_field(
     f: Field,
     pattern: &[u32],
     out: &mut [u8],
-) -> Written
+) -> Result<usize, Refusal>
     ensures { let store = store_of names.now terms.old terms_used nodes.now nodes_used in
         let blank = blank_slots names.now pattern.now in
         let text = listed_text (step store (call_match allOfThem (request_of (as_field f) pattern.now [] blank))) in
@@ -180,7 +182,7 @@ fn list_runs(
     runs: &[u32],
     pattern: &[u32],
     out: &mut [u8],
-) -> Written
+) -> Result<usize, Refusal>
     ensures { let store = store_of names.now terms.old terms_used (zeros node_words) 1 in
         let made = step store (call_from_runs runs.now) in
         let text = built_text names.now pattern.now made in
@@ -195,15 +197,15 @@ fn list_runs(
 }
 
 // What the program `sheet` prints for a text, into the first bytes of `out`. 14 if `out` is short; 42,025 bytes are always enough.
-pub fn run_sheet(text: &[u8], out: &mut [u8]) -> Written
+pub fn run_sheet(text: &[u8], out: &mut [u8]) -> Result<usize, Refusal>
     ensures { (written_of result, out.new) ≡ written (answer_text text.now) out.old }
 {
     let mut terms = [0u32; TERM_WORDS];
     let mut pattern = [0u32; PATTERN_WORDS];
     let mut runs = [0u32; RUN_WORDS];
     match sheet_read::read_sheet(text, &mut terms, &mut pattern, &mut runs) {
-        SheetRead::Refused(n) => print_refusal(n, out),
-        SheetRead::Counted(c) => {
+        Err(r) => print_refusal(r.number(), out),
+        Ok(c) => {
             let names = sheet_read::names_part(text, c);
             list_runs(
                 names,

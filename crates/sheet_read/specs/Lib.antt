@@ -1,4 +1,4 @@
 pub mod Read
-pub mod NumberLaws
 pub mod LineLaws
 pub mod SheetLaws
+pub mod NumberLaws
