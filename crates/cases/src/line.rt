@@ -1,6 +1,7 @@
 // The lines of a file, and the tokens of a line.
 use crate::at::{Have, Names, Row, State};
 use crate::{at, row, tell, verbs};
+use lines::Tokens;
 use std::io;
 use std::rt::Env;
 
@@ -34,11 +35,8 @@ fn tokens(
     row: &mut Row,
     state: &mut State,
 ) -> io::Result<()> {
-    let mut at = 0;
-    while at < line.len() {
-        let e = lines::token_end(line, at);
-        token(rt, &line[at..e], names, have, want, row, state)?;
-        at = e;
+    for t in Tokens::new(line) {
+        token(rt, t, names, have, want, row, state)?;
     }
     Ok(())
 }
@@ -72,11 +70,8 @@ pub fn lines(
     row: &mut Row,
     state: &mut State,
 ) -> io::Result<()> {
-    let mut at = 0;
-    while at < text.len() {
-        let e = lines::line_end(text, at);
-        line(rt, &text[at..e], names, have, want, row, state)?;
-        at = e;
+    for text in text.split_inclusive(|byte| *byte == b'\n') {
+        line(rt, text, names, have, want, row, state)?;
     }
     verbs::settle(rt, have, want, state)
 }

@@ -13,9 +13,9 @@ mod verbs;
 mod vocabulary;
 
 use crate::at::{Have, Names, Row, State};
+use std::io;
 use std::io::Read;
 use std::rt::{Env, Files};
-use std::{fs, io, str};
 
 // The text of an open file. It has to end before the buffer does.
 fn read(
@@ -36,12 +36,6 @@ fn read(
     Ok(())
 }
 
-// None where the file cannot be opened, or where its path is no text.
-fn open<R: Files>(rt: &R, path: &[u8]) -> Option<R::File> {
-    let path = str::from_utf8(path).ok()?;
-    fs::open(rt, path).ok()
-}
-
 fn file(
     rt: &(impl Env + Files + Print),
     names: &mut Names,
@@ -51,8 +45,8 @@ fn file(
     state: &mut State,
 ) -> io::Result<()> {
     let mut path = [0u8; 4096];
-    let n = tell::arg(rt, state[at::FILE], &mut path);
-    let Some(mut file) = open(rt, &path[..n]) else {
+    let path = lines::arg(rt, state[at::FILE], &mut path);
+    let Some(mut file) = lines::open(rt, path) else {
         return tell::unread(rt, state, b"the file cannot be opened");
     };
     let mut text = [0u8; 1048576];
@@ -75,7 +69,7 @@ fn run(
 ) -> io::Result<()> {
     *state = [0usize; 64];
     state[at::FILE] = i;
-    state[at::VERB] = lines::NONE;
+    state[at::VERB] = vocabulary::NONE;
     file(rt, names, have, want, row, state)?;
     tell::counts(rt, state)
 }

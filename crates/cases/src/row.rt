@@ -3,8 +3,8 @@
 ghost use Rattle.std.specs.Prelude.{◌≤◌};
 
 use crate::at::{Names, Row, State};
+use crate::vocabulary::NONE;
 use crate::{at, store, vocabulary};
-use lines::{NONE, Parsed, byte, wide};
 
 pub fn least(a: usize, b: usize) -> usize
     ensures { result ≤ b }
@@ -67,8 +67,8 @@ fn begin(kind: usize, row: &mut Row, state: &mut State) {
 
 fn number(t: &[u8], row: &mut Row, state: &mut State) {
     match lines::decimal(t) {
-        Parsed::Is(n) => push(n, row, state),
-        Parsed::Nothing => state[at::BAD] = 1,
+        Some(n) => push(n, row, state),
+        None => state[at::BAD] = 1,
     }
 }
 
@@ -77,7 +77,7 @@ fn characters(t: &[u8], row: &mut Row, state: &mut State) {
     let mut i = 0;
     while i < t.len() {
         begin(0, row, state);
-        push(wide(t[i]), row, state);
+        push(usize::from(t[i]), row, state);
         i += 1;
     }
 }
@@ -125,6 +125,11 @@ fn quoted(t: &[u8], names: &mut Names, state: &mut State) {
     }
     let text = between(t, state);
     spell(text, names, state);
+}
+
+// Byte i, 0 where there is none.
+fn byte(t: &[u8], i: usize) -> u8 {
+    t.get(i).copied().unwrap_or(0)
 }
 
 // The kind of a record with a name, as e.1; NONE where it is none.
@@ -177,7 +182,7 @@ fn constant(t: &[u8], row: &mut Row, state: &mut State) -> bool {
         push(answer, row, state);
         return true;
     }
-    if lines::same(t, b"max") {
+    if t == b"max".as_slice() {
         push(18446744073709551615, row, state);
         return true;
     }

@@ -1,6 +1,4 @@
 // What is printed: a line for each case that went wrong, and the counts.
-ghost use Rattle.std.specs.Prelude.{◌≤◌, length};
-
 use crate::at::State;
 use crate::{at, store};
 use std::env::FillError;
@@ -15,16 +13,6 @@ fn number(rt: &impl Print, n: usize) -> io::Result<()> {
     rt.print(n)
 }
 
-// The bytes of argument i go to the start of the buffer; none where there is no such argument, or no room for it.
-pub fn arg(rt: &impl Env, i: usize, buf: &mut [u8]) -> usize
-    ensures { result ≤ length buf.new }
-{
-    match rt.arg(i, buf) {
-        Ok(n) => n,
-        Err(_) => 0,
-    }
-}
-
 // Whether there is an argument i.
 pub fn there(rt: &impl Env, i: usize) -> bool {
     !matches!(rt.arg(i, &mut []), Err(FillError::NotPresent))
@@ -33,8 +21,7 @@ pub fn there(rt: &impl Env, i: usize) -> bool {
 // The file's name.
 fn file(rt: &(impl Env + Print), state: &State) -> io::Result<()> {
     let mut path = [0u8; 4096];
-    let n = arg(rt, state[at::FILE], &mut path);
-    write(rt, &path[..n])
+    write(rt, lines::arg(rt, state[at::FILE], &mut path))
 }
 
 // How many cases of a file ran, and how many went wrong.

@@ -1,8 +1,7 @@
 // The clauses of a line: a verb and its values.
 use crate::at::{Have, Names, Row, State};
-use crate::vocabulary::CALLS;
+use crate::vocabulary::{CALLS, NONE};
 use crate::{at, calls, row, store, tell, vocabulary};
-use lines::NONE;
 use std::io;
 use std::rt::Env;
 

@@ -1,6 +1,14 @@
 // The words of the lines.
 use crate::at;
-use lines::{NONE, find};
+use lines::Tokens;
+
+// What no list of words has.
+pub const NONE: usize = 99;
+
+// The place of a word in a list of words, counted from 0.
+fn find(list: &[u8], word: &[u8]) -> usize {
+    Tokens::new(list).position(|w| w == word).unwrap_or(NONE)
+}
 
 // What sets the stores, what a call must answer and leave, and then the calls, from CALLS on.
 pub fn verb(word: &[u8]) -> usize {
