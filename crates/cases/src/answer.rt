@@ -1,5 +1,8 @@
 // What a call answers.
+use equality::Compared;
+use listing::Matched;
 use std::fmt;
+use view_read::{Flat, Verdict};
 
 // The kind of an answer, by its number in a line. That of what stands in the work buffer is the region's.
 #[derive(Clone, Copy, PartialEq, Eq)]
@@ -97,6 +100,67 @@ impl Given {
             first,
             second,
         })
+    }
+
+    fn refused(number: usize) -> Given {
+        Given::new(Answer::Refused, number, 0)
+    }
+
+    // What check_terms answers: a refusal's number, or 0.
+    pub fn from_check(number: usize) -> Given {
+        match number {
+            0 => Given::new(Answer::Ok, 0, 0),
+            _ => Given::refused(number),
+        }
+    }
+}
+
+impl From<view::Answer> for Given {
+    fn from(answer: view::Answer) -> Given {
+        match answer {
+            view::Answer::Built(field) => Given::new(Answer::Field, field.node, field.len),
+            view::Answer::Refused(number) => Given::refused(number),
+        }
+    }
+}
+
+impl From<Verdict> for Given {
+    fn from(verdict: Verdict) -> Given {
+        match verdict {
+            Verdict::Yes => Given::new(Answer::Yes, 0, 0),
+            Verdict::No => Given::new(Answer::No, 0, 0),
+            Verdict::Refused(number) => Given::refused(number),
+        }
+    }
+}
+
+impl From<Compared> for Given {
+    fn from(compared: Compared) -> Given {
+        match compared {
+            Compared::Equal => Given::new(Answer::Yes, 0, 0),
+            Compared::Different => Given::new(Answer::No, 0, 0),
+            Compared::Refused(number) => Given::refused(number),
+        }
+    }
+}
+
+impl From<Flat> for Given {
+    fn from(flat: Flat) -> Given {
+        match flat {
+            Flat::InStore(run) => Given::new(Answer::Store, run.start, run.len),
+            Flat::InWork(n) => Given::new(Answer::Work, n, 0),
+            Flat::Refused(number) => Given::refused(number),
+        }
+    }
+}
+
+impl From<Matched> for Given {
+    fn from(matched: Matched) -> Given {
+        match matched {
+            Matched::Listed(count, entries) => Given::new(Answer::Listed, count, entries),
+            Matched::More(count, entries) => Given::new(Answer::More, count, entries),
+            Matched::Refused(number) => Given::refused(number),
+        }
     }
 }
 

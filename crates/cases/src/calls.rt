@@ -4,7 +4,6 @@ use crate::clause;
 use crate::fault::Fault;
 use crate::stores::Stores;
 use crate::vocabulary::Call;
-use equality::Compared;
 use listing::Matched;
 use std::alloc::Global;
 use view::Field;
@@ -61,8 +60,6 @@ impl Request {
     }
 }
 
-// ---- the library's answers ----
-
 // An answer of flatten, as a line writes it.
 fn flat_from_values(kind: usize, start: usize, len: usize) -> Flat {
     match Answer::from_number(kind) {
@@ -72,90 +69,59 @@ fn flat_from_values(kind: usize, start: usize, len: usize) -> Flat {
     }
 }
 
-fn refused(number: usize) -> Given {
-    Given::new(Answer::Refused, number, 0)
-}
-
-fn built(answer: view::Answer) -> Given {
-    match answer {
-        view::Answer::Built(field) => Given::new(Answer::Field, field.node, field.len),
-        view::Answer::Refused(number) => refused(number),
-    }
-}
-
-fn judged(verdict: Verdict) -> Given {
-    match verdict {
-        Verdict::Yes => Given::new(Answer::Yes, 0, 0),
-        Verdict::No => Given::new(Answer::No, 0, 0),
-        Verdict::Refused(number) => refused(number),
-    }
-}
-
-fn compared(compared: Compared) -> Given {
-    match compared {
-        Compared::Equal => Given::new(Answer::Yes, 0, 0),
-        Compared::Different => Given::new(Answer::No, 0, 0),
-        Compared::Refused(number) => refused(number),
-    }
-}
-
-fn placed(flat: Flat) -> Given {
-    match flat {
-        Flat::InStore(run) => Given::new(Answer::Store, run.start, run.len),
-        Flat::InWork(n) => Given::new(Answer::Work, n, 0),
-        Flat::Refused(number) => refused(number),
-    }
-}
-
-fn matched(matched: Matched) -> Given {
-    match matched {
-        Matched::Listed(count, entries) => Given::new(Answer::Listed, count, entries),
-        Matched::More(count, entries) => Given::new(Answer::More, count, entries),
-        Matched::Refused(number) => refused(number),
-    }
-}
-
-fn checked(number: usize) -> Given {
-    match number {
-        0 => Given::new(Answer::Ok, 0, 0),
-        _ => refused(number),
-    }
-}
-
 // ---- the calls ----
 
 impl Stores {
     // What the call answers. What it changes of what is lent stays.
     pub fn call(&mut self, request: &Request) -> Given {
         match request {
-            Request::FromRuns(runs) => self.from_runs(runs),
+            Request::FromRuns(runs) => self.build(|names, terms, used, nodes, nodes_used| {
+                view::from_runs(names, terms, used, nodes, nodes_used, runs)
+            }),
             Request::Take(field, n) => self.take(*field, *n),
-            Request::Rest(field, n) => self.rest(*field, *n),
-            Request::Range(field, k, n) => self.range(*field, *k, *n),
-            Request::Join(first, second) => self.join(*first, *second),
-            Request::StartsWith(first, second) => self.starts_with(*first, *second),
-            Request::Equal(first, second) => self.equal(*first, *second),
+            Request::Rest(field, n) => self.build(|names, terms, used, nodes, nodes_used| {
+                view::rest(names, terms, used, nodes, nodes_used, *field, *n)
+            }),
+            Request::Range(field, k, n) => self.build(|names, terms, used, nodes, nodes_used| {
+                view::range(names, terms, used, nodes, nodes_used, *field, *k, *n)
+            }),
+            Request::Join(first, second) => self.build(|names, terms, used, nodes, nodes_used| {
+                view::join(names, terms, used, nodes, nodes_used, *first, *second)
+            }),
+            Request::StartsWith(first, second) => {
+                self.judge(view_read::starts_with, *first, *second)
+            }
+            Request::Equal(first, second) => self.judge(view_read::equal, *first, *second),
             Request::Flatten(field) => self.flatten(*field),
             Request::FlatPart(flat) => self.flat_part(*flat),
-            Request::Listing(field) => self.listing(*field),
-            Request::First(field) => self.first(*field),
+            Request::Listing(field) => self.list(
+                listing::match_pattern_with_bindings_candidates,
+                *field,
+            ),
+            Request::First(field) => self.list(listing::match_pattern_first, *field),
             Request::CompareRuns(first, second) => self.compare_runs(*first, *second),
             Request::NameCount => self.name_count(),
             Request::CheckTerms => self.check_terms(),
         }
     }
 
-    fn from_runs(&mut self, runs: &[u32]) -> Given {
+    // A call that may add nodes.
+    fn build<F>(&mut self, call: F) -> Given
+    where
+        F: FnOnce(&[u8], &[u32], usize, &mut [u32], &mut usize) -> view::Answer,
+        requires { F.IsAlwaysCallable call }
+    {
         let names = self.names.lent();
         let terms = self.terms.lent();
         let used = self.terms.used();
-        built(self.nodes.lend_to(|nodes, nodes_used| {
-            view::from_runs(names, terms, used, nodes, nodes_used, runs)
-        }))
+        let answer = self.nodes.lend_to(|nodes, nodes_used| call(
+            names, terms, used, nodes, nodes_used,
+        ));
+        Given::from(answer)
     }
 
     fn take(&self, field: Field, n: usize) -> Given {
-        built(view::take(
+        Given::from(view::take(
             self.names.lent(),
             self.terms.lent(),
             self.terms.used(),
@@ -166,47 +132,13 @@ impl Stores {
         ))
     }
 
-    fn rest(&mut self, field: Field, n: usize) -> Given {
-        let names = self.names.lent();
-        let terms = self.terms.lent();
-        let used = self.terms.used();
-        built(self.nodes.lend_to(|nodes, nodes_used| {
-            view::rest(names, terms, used, nodes, nodes_used, field, n)
-        }))
-    }
-
-    fn range(&mut self, field: Field, k: usize, n: usize) -> Given {
-        let names = self.names.lent();
-        let terms = self.terms.lent();
-        let used = self.terms.used();
-        built(self.nodes.lend_to(|nodes, nodes_used| {
-            view::range(names, terms, used, nodes, nodes_used, field, k, n)
-        }))
-    }
-
-    fn join(&mut self, first: Field, second: Field) -> Given {
-        let names = self.names.lent();
-        let terms = self.terms.lent();
-        let used = self.terms.used();
-        built(self.nodes.lend_to(|nodes, nodes_used| {
-            view::join(names, terms, used, nodes, nodes_used, first, second)
-        }))
-    }
-
-    fn starts_with(&self, first: Field, second: Field) -> Given {
-        judged(view_read::starts_with(
-            self.names.lent(),
-            self.terms.lent(),
-            self.terms.used(),
-            self.nodes.lent(),
-            self.nodes.used(),
-            first,
-            second,
-        ))
-    }
-
-    fn equal(&self, first: Field, second: Field) -> Given {
-        judged(view_read::equal(
+    // A call that compares two fields.
+    fn judge<F>(&self, call: F, first: Field, second: Field) -> Given
+    where
+        F: FnOnce(&[u8], &[u32], usize, &[u32], usize, Field, Field) -> Verdict,
+        requires { F.IsAlwaysCallable call }
+    {
+        Given::from(call(
             self.names.lent(),
             self.terms.lent(),
             self.terms.used(),
@@ -228,9 +160,8 @@ impl Stores {
             field,
             self.work.lent_mut(),
         );
-        self.shown
-            .show(view_read::flat_part(self.terms.lent(), self.work.lent(), flat));
-        placed(flat)
+        self.shown.show(view_read::flat_part(self.terms.lent(), self.work.lent(), flat));
+        Given::from(flat)
     }
 
     // flat_part of an answer that did not come of its slices; the work buffer has two terms' words.
@@ -241,36 +172,38 @@ impl Stores {
         Given::new(Answer::Ok, 0, 0)
     }
 
-    fn listing(&mut self, field: Field) -> Given {
+    // A call that lists candidates, and may add terms.
+    fn list<F>(&mut self, call: F, field: Field) -> Given
+    where
+        F: FnOnce(
+            &[u8],
+            &mut [u32],
+            &mut usize,
+            &[u32],
+            usize,
+            Field,
+            &[u32],
+            &[u32],
+            &mut [u32],
+        ) -> Matched,
+        requires { F.IsAlwaysCallable call }
+    {
         let names = self.names.lent();
         let nodes = self.nodes.lent();
         let nodes_used = self.nodes.used();
         let pattern = self.pattern.lent();
         let start = self.start.lent();
         let slots = self.slots.lent_mut();
-        matched(self.terms.lend_to(|terms, used| {
-            listing::match_pattern_with_bindings_candidates(
+        let answer = self.terms.lend_to(|terms, used| {
+            call(
                 names, terms, used, nodes, nodes_used, field, pattern, start, slots,
             )
-        }))
-    }
-
-    fn first(&mut self, field: Field) -> Given {
-        let names = self.names.lent();
-        let nodes = self.nodes.lent();
-        let nodes_used = self.nodes.used();
-        let pattern = self.pattern.lent();
-        let start = self.start.lent();
-        let slots = self.slots.lent_mut();
-        matched(self.terms.lend_to(|terms, used| {
-            listing::match_pattern_first(
-                names, terms, used, nodes, nodes_used, field, pattern, start, slots,
-            )
-        }))
+        });
+        Given::from(answer)
     }
 
     fn compare_runs(&self, first: Run, second: Run) -> Given {
-        compared(equality::compare_runs(
+        Given::from(equality::compare_runs(
             self.names.lent(),
             self.terms.lent(),
             self.terms.used(),
@@ -287,7 +220,7 @@ impl Stores {
     }
 
     fn check_terms(&self) -> Given {
-        checked(value::check_terms(
+        Given::from_check(value::check_terms(
             self.names.lent(),
             self.terms.lent(),
             self.terms.used(),

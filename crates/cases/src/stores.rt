@@ -2,13 +2,22 @@
 use crate::fault::Fault;
 use crate::names::Names;
 use crate::records::Records;
-use crate::vocabulary::{Region, Verb};
+use crate::vocabulary::{BINDING_WIDTH, PATTERN_WIDTH, Region, Verb};
 use crate::wrong::Wrong;
 use std::alloc::{AllocError, Global};
 
-const NODE_WORDS: usize = 600;
+// The words of the regions.
+const TERM_WORDS: usize = 1028 * words::TERM_WIDTH;
 
-const PATTERN_WORDS: usize = 1040;
+const NODE_WORDS: usize = 100 * words::NODE_WIDTH;
+
+const PATTERN_WORDS: usize = 260 * PATTERN_WIDTH;
+
+const START_WORDS: usize = 68 * BINDING_WIDTH;
+
+const SLOT_WORDS: usize = 128;
+
+const WORK_WORDS: usize = 16 * words::TERM_WIDTH;
 
 #[derive(Drop)]
 pub struct Stores {
@@ -26,13 +35,13 @@ impl Stores {
     pub fn new(alloc: Global) -> Result<Stores, AllocError> {
         Ok(Stores {
             names: Names::new(alloc)?,
-            terms: Records::new(alloc, 5140, Region::Terms.width())?,
+            terms: Records::new(alloc, TERM_WORDS, Region::Terms.width())?,
             nodes: Records::new(alloc, NODE_WORDS, Region::Nodes.width())?,
             pattern: Records::new(alloc, PATTERN_WORDS, Region::Pattern.width())?,
-            start: Records::new(alloc, 340, Region::Start.width())?,
-            slots: Records::new(alloc, 128, Region::Slots.width())?,
-            work: Records::new(alloc, 80, Region::Work.width())?,
-            shown: Records::new(alloc, 80, Region::Shown.width())?,
+            start: Records::new(alloc, START_WORDS, Region::Start.width())?,
+            slots: Records::new(alloc, SLOT_WORDS, Region::Slots.width())?,
+            work: Records::new(alloc, WORK_WORDS, Region::Work.width())?,
+            shown: Records::new(alloc, WORK_WORDS, Region::Shown.width())?,
         })
     }
 

@@ -56,9 +56,11 @@ impl<'a> Value<'a> {
         let clause = clause.ok_or(Fault::Unread);
         match self {
             Value::Number(text) => clause?.push(lines::decimal(text).ok_or(Fault::Unread)?),
-            Value::Characters(text) => {
-                clause?.characters(names::unquoted(text).ok_or(Fault::Unread)?)
-            }
+            Value::Characters(text) => match names::unquoted(text) {
+                None => Err(Fault::Unread),
+                Some([]) => Ok(()),
+                Some(text) => clause?.characters(text),
+            },
             Value::Names(text) => {
                 names.set(text)?;
                 clause?;

@@ -72,6 +72,11 @@ impl Call {
     }
 }
 
+// The words of a pattern record and of a starting binding.
+pub const PATTERN_WIDTH: usize = 4;
+
+pub const BINDING_WIDTH: usize = 5;
+
 // What is lent: regions of words, and the names, which are bytes. A line may name a region by its number.
 #[derive(Clone, Copy, PartialEq, Eq)]
 pub enum Region {
@@ -121,8 +126,8 @@ impl Region {
         match self {
             Region::Terms | Region::Work | Region::Shown => words::TERM_WIDTH,
             Region::Nodes => words::NODE_WIDTH,
-            Region::Pattern => 4,
-            Region::Start => 5,
+            Region::Pattern => PATTERN_WIDTH,
+            Region::Start => BINDING_WIDTH,
             Region::Slots | Region::Names => 1,
         }
     }
