@@ -132,7 +132,7 @@ impl<'a> Cases<'a> {
                 self.settle(rt)?;
                 self.call(call, values)
             }
-            _ => {
+            Verb::Set | Verb::Add | Verb::Lend | Verb::Use | Verb::Word => {
                 self.settle(rt)?;
                 self.stores.change(verb, values, self.alloc)
             }
