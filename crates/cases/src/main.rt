@@ -1,98 +1,79 @@
 // Runs the cases of the files that the arguments name: lines of stores, calls and what they must answer and leave (docs/CASES.md has their
 // form). It prints a line for each case that went wrong and for each line that cannot be read, then for each file how many cases ran.
-// Stack: a file's text of up to 1 MB, the names, and arrays of words, less than 1.3 MB in all.
+// Stack: less than 0.25 MB. A file's text of up to 1 MB, the names and the words that are lent are on the heap, less than 1.4 MB in all.
 #![tactic(auto)]
 
-mod at;
+mod answer;
 mod calls;
-mod line;
-mod row;
-mod store;
-mod tell;
-mod verbs;
+mod cases;
+mod clause;
+mod fault;
+mod kind;
+mod names;
+mod records;
+mod stores;
+mod token;
 mod vocabulary;
+mod wrong;
 
-use crate::at::{Have, Names, Row, State};
-use std::io::Read;
+use crate::cases::Cases;
+use crate::stores::Stores;
+use std::env::FillError;
+use std::io;
 use std::rt::{Env, Files};
-use std::{fs, io, str};
 
-// The text of an open file. It has to end before the buffer does.
+// A file's text has to end before the buffer does.
+const TEXT_BYTES: usize = 1048576;
+
+const PATH_BYTES: usize = 4096;
+
+// The lines of a file, if it can be opened and has room in the buffer.
 fn read(
-    rt: &(impl Env + Print),
-    file: &mut impl Read,
-    text: &mut [u8; 1048576],
-    names: &mut Names,
-    have: &mut Have,
-    want: &mut Have,
-    row: &mut Row,
-    state: &mut State,
+    rt: &(impl Files + Print),
+    cases: &mut Cases,
+    path: &[u8],
+    buffer: &mut [u8],
 ) -> io::Result<()> {
-    let n = lines::read_full(file, text)?;
-    line::lines(rt, lines::first(text, n), names, have, want, row, state)?;
-    if 1048575 < n {
-        tell::unread(rt, state, b"the file is too long")?;
-    }
-    Ok(())
-}
-
-// None where the file cannot be opened, or where its path is no text.
-fn open<R: Files>(rt: &R, path: &[u8]) -> Option<R::File> {
-    let path = str::from_utf8(path).ok()?;
-    fs::open(rt, path).ok()
-}
-
-fn file(
-    rt: &(impl Env + Files + Print),
-    names: &mut Names,
-    have: &mut Have,
-    want: &mut Have,
-    row: &mut Row,
-    state: &mut State,
-) -> io::Result<()> {
-    let mut path = [0u8; 4096];
-    let n = tell::arg(rt, state[at::FILE], &mut path);
-    let Some(mut file) = open(rt, &path[..n]) else {
-        return tell::unread(rt, state, b"the file cannot be opened");
+    let Some(mut file) = lines::open(rt, path) else {
+        return cases.unread(rt, "the file cannot be opened");
     };
-    let mut text = [0u8; 1048576];
-    read(rt, &mut file, &mut text, names, have, want, row, state)?;
-    if state[at::CASES] == 0 {
-        tell::unread(rt, state, b"the file has no cases")?;
+    let n = lines::read_full(&mut file, buffer)?;
+    cases.lines(rt, &buffer[..n])?;
+    if n == buffer.len() {
+        cases.unread(rt, "the file is too long")?;
+    }
+    if cases.is_empty() {
+        cases.unread(rt, "the file has no cases")?;
     }
     Ok(())
 }
 
-// The file of argument i, from empty stores.
+// The file of argument i, from empty stores. A path for which there is no room is as an empty one.
 fn run(
-    rt: &(impl Env + Files + Print),
+    rt: &(impl AllocGlobal + Env + Files + Print),
     i: usize,
-    names: &mut Names,
-    have: &mut Have,
-    want: &mut Have,
-    row: &mut Row,
-    state: &mut State,
+    stores: &mut Stores,
+    buffer: &mut [u8],
 ) -> io::Result<()> {
-    *state = [0usize; 64];
-    state[at::FILE] = i;
-    state[at::VERB] = lines::NONE;
-    file(rt, names, have, want, row, state)?;
-    tell::counts(rt, state)
+    let mut path = [0; PATH_BYTES];
+    let path = lines::arg(rt, i, &mut path);
+    let mut cases = Cases::new(rt.alloc(), path, stores);
+    read(rt, &mut cases, path, buffer)?;
+    cases.print_counts(rt)
+}
+
+fn is_there(rt: &impl Env, i: usize) -> bool {
+    !matches!(rt.arg(i, &mut []), Err(FillError::NotPresent))
 }
 
 fn main(rt: HostRuntime) -> io::Result<()> {
-    let mut names = [97u8; 65600];
-    let mut have = [777u32; at::ALL_WORDS];
-    let mut want = [777u32; at::ALL_WORDS];
-    let mut row = [0u32; at::ROW_WORDS];
-    let mut state = [0usize; 64];
+    let mut stores = Stores::new(rt.alloc())?;
+    let mut buffer = vec![in rt.alloc(); 0; TEXT_BYTES]?;
     for i in 1..usize::MAX {
-        if !tell::there(&rt, i) {
+        if !is_there(&rt, i) {
             break;
         }
-        run(
-            &rt, i, &mut names, &mut have, &mut want, &mut row, &mut state,
-        )?;
+        run(&rt, i, &mut stores, &mut buffer)?;
     }
     Ok(())
 }

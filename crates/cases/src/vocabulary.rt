@@ -1,93 +1,149 @@
 // The words of the lines.
-use crate::at;
-use lines::{NONE, find};
+ghost use Rattle.std.specs.Prelude.{◌<◌};
 
-// What sets the stores, what a call must answer and leave, and then the calls, from CALLS on.
-pub fn verb(word: &[u8]) -> usize {
-    let v = find(b"set add lend use word gives writes", word);
-    if v < CALLS {
-        return v;
-    }
-    let builds = find(b"from_runs take rest range join", word);
-    if builds < 5 {
-        return CALLS + builds;
-    }
-    let reads = find(b"starts_with equal flatten flat_part", word);
-    if reads < 4 {
-        return CALLS + 5 + reads;
-    }
-    let others = find(b"listing first compare_runs name_count check_terms", word);
-    if others < 5 {
-        return CALLS + 9 + others;
-    }
-    NONE
+use std::fmt;
+
+// What a clause does: it sets the stores, says what a call must answer or leave, or calls.
+#[derive(Clone, Copy)]
+pub enum Verb {
+    Set,
+    Add,
+    Lend,
+    Use,
+    Word,
+    Gives,
+    Writes,
+    Call(Call),
 }
 
-pub const LEND: usize = 2;
-
-pub const USE: usize = 3;
-
-pub const GIVES: usize = 5;
-
-pub const WRITES: usize = 6;
-
-pub const CALLS: usize = 7;
-
-// How many numbers a call takes; from_runs takes any.
-pub fn arguments(call: usize) -> usize {
-    match call {
-        1 | 2 | 8 => 3,
-        3 | 4 | 5 | 6 | 11 => 4,
-        7 | 9 | 10 => 2,
-        _ => 0,
+impl Verb {
+    pub fn from_word(word: &[u8]) -> Option<Verb> {
+        match word {
+            b"set" => Some(Verb::Set),
+            b"add" => Some(Verb::Add),
+            b"lend" => Some(Verb::Lend),
+            b"use" => Some(Verb::Use),
+            b"word" => Some(Verb::Word),
+            b"gives" => Some(Verb::Gives),
+            b"writes" => Some(Verb::Writes),
+            _ => Some(Verb::Call(Call::from_word(word)?)),
+        }
     }
 }
 
-// The fewest and the most values of a clause that sets a store, or of writes. Names have no words: they are set alone, lent and used.
-pub fn fewest(verb: usize) -> usize {
-    match verb {
-        2 | 3 => 2,
-        4 => 3,
-        _ => 1,
+// The calls of the library.
+#[derive(Clone, Copy)]
+pub enum Call {
+    FromRuns,
+    Take,
+    Rest,
+    Range,
+    Join,
+    StartsWith,
+    Equal,
+    Flatten,
+    FlatPart,
+    Listing,
+    First,
+    CompareRuns,
+    NameCount,
+    CheckTerms,
+}
+
+impl Call {
+    fn from_word(word: &[u8]) -> Option<Call> {
+        match word {
+            b"from_runs" => Some(Call::FromRuns),
+            b"take" => Some(Call::Take),
+            b"rest" => Some(Call::Rest),
+            b"range" => Some(Call::Range),
+            b"join" => Some(Call::Join),
+            b"starts_with" => Some(Call::StartsWith),
+            b"equal" => Some(Call::Equal),
+            b"flatten" => Some(Call::Flatten),
+            b"flat_part" => Some(Call::FlatPart),
+            b"listing" => Some(Call::Listing),
+            b"first" => Some(Call::First),
+            b"compare_runs" => Some(Call::CompareRuns),
+            b"name_count" => Some(Call::NameCount),
+            b"check_terms" => Some(Call::CheckTerms),
+            _ => None,
+        }
     }
 }
 
-pub fn most(verb: usize, region: usize) -> usize {
-    match verb {
-        2 | 3 => 2,
-        4 => if region < 7 { 3 } else { 0 },
-        0 => if region < 7 { at::ROW_WORDS } else { 1 },
-        _ => if region < 7 { at::ROW_WORDS } else { 0 },
+// The words of a pattern record and of a starting binding.
+pub const PATTERN_WIDTH: usize = 4;
+
+pub const BINDING_WIDTH: usize = 5;
+
+// What is lent: regions of words, and the names, which are bytes. A line may name a region by its number.
+#[derive(Clone, Copy, PartialEq, Eq)]
+pub enum Region {
+    Terms = 0,
+    Nodes = 1,
+    Pattern = 2,
+    Start = 3,
+    Slots = 4,
+    Work = 5,
+    Shown = 6,
+    Names = 7,
+}
+
+impl Region {
+    pub fn from_word(word: &[u8]) -> Option<Region> {
+        match word {
+            b"terms" => Some(Region::Terms),
+            b"nodes" => Some(Region::Nodes),
+            b"pattern" => Some(Region::Pattern),
+            b"start" => Some(Region::Start),
+            b"slots" => Some(Region::Slots),
+            b"work" => Some(Region::Work),
+            b"shown" => Some(Region::Shown),
+            b"names" => Some(Region::Names),
+            _ => None,
+        }
+    }
+
+    pub fn from_number(number: usize) -> Option<Region> {
+        match number {
+            0 => Some(Region::Terms),
+            1 => Some(Region::Nodes),
+            2 => Some(Region::Pattern),
+            3 => Some(Region::Start),
+            4 => Some(Region::Slots),
+            5 => Some(Region::Work),
+            6 => Some(Region::Shown),
+            7 => Some(Region::Names),
+            _ => None,
+        }
+    }
+
+    // The words of a record.
+    pub fn width(self) -> usize
+        ensures { 0 < result }
+    {
+        match self {
+            Region::Terms | Region::Work | Region::Shown => words::TERM_WIDTH,
+            Region::Nodes => words::NODE_WIDTH,
+            Region::Pattern => PATTERN_WIDTH,
+            Region::Start => BINDING_WIDTH,
+            Region::Slots | Region::Names => 1,
+        }
     }
 }
 
-// The regions of words that are lent.
-pub fn region(word: &[u8]) -> usize {
-    find(b"terms nodes pattern start slots work shown names", word)
-}
-
-// A kind of record, as its number.
-pub fn kind(word: &[u8]) -> usize {
-    let term = find(b"char ident number bracket unknown", word);
-    if term < 5 {
-        return term;
+impl fmt::Display for Region {
+    fn fmt<W: fmt::Write>(&self, f: &mut fmt::Formatter<W>) -> fmt::Result {
+        f.write_str(match self {
+            Region::Terms => "terms",
+            Region::Nodes => "nodes",
+            Region::Pattern => "pattern",
+            Region::Start => "start",
+            Region::Slots => "slots",
+            Region::Work => "work",
+            Region::Shown => "shown",
+            Region::Names => "names",
+        })
     }
-    let node = find(b"nil cons concat open close", word);
-    if node < 5 {
-        return node;
-    }
-    let other = find(b"s t e call block", word);
-    if other < 5 {
-        return other + 5;
-    }
-    NONE
-}
-
-// The kinds of answers are numbers from 20 on; work is its region's.
-pub fn answer(word: &[u8]) -> usize {
-    let k = find(b"field refused yes no store listed more count ok", word);
-    if k < 9 {
-        return k + at::FIELD;
-    }
-    NONE
 }

@@ -1,156 +1,104 @@
-// Texts of lines and tokens, for the programs that read their cases. A token is quoted, or ends at a space.
+// Texts of lines and tokens, for the programs that read their cases, and the files and arguments that they come from.
 #![tactic(auto)]
 
 ghost use Rattle.std.specs.Prelude.{◌<◌, ◌≤◌, IfOk, length};
+ghost use Rattle.std.specs.Iterator.{at_most};
 
-use std::io;
 use std::io::Read;
+use std::rt::{Env, Files};
+use std::{fs, io, str};
 
-// What no list of words has.
-pub const NONE: usize = 99;
-
-// Byte i, 0 where there is none.
-pub fn byte(t: &[u8], i: usize) -> u8 {
-    if i < t.len() {
-        return t[i];
-    }
-    0
+// The first n items; all where there are fewer.
+pub fn first<T>(items: &[T], n: usize) -> &[T] {
+    items.get(..n).unwrap_or(items)
 }
 
-// The first n bytes; all where there are fewer.
-pub fn first<'a>(text: &'a [u8], n: usize) -> &'a [u8] {
-    if text.len() < n {
-        return text;
-    }
-    &text[0..n]
+// The tokens of a line: quoted texts, and what stands between spaces. What follows a # at the start of a token is a comment.
+#[derive(Drop)]
+pub struct Tokens<'a> {
+    rest: &'a [u8],
 }
 
-// What ends a token that begins so.
-fn closing(first: u8) -> u8 {
-    if first == b'\'' || first == b'"' {
-        return first;
+impl<'a> Tokens<'a> {
+    pub fn new(line: &'a [u8]) -> Tokens<'a> {
+        Tokens { rest: line }
     }
-    b' '
 }
 
-// Where the token that starts at `at` ends. A space and an end of line are tokens of their own, and so is a comment.
-pub fn token_end(line: &[u8], at: usize) -> usize
-    requires { at < length line.now }
-    ensures { (at < result) × (result ≤ length line.now) }
+impl<'a> Iterator for Tokens<'a> {
+    type Item = &'a [u8];
+
+    ghost remaining = { λ tokens. at_most (length tokens.rest.now) };
+
+    fn next(&mut self) -> Option<&'a [u8]> {
+        let start = self
+            .rest
+            .iter()
+            .position(|byte| *byte != b' ' && *byte != b'\n')?;
+        let text = &self.rest[start..];
+        if text[0] == b'#' {
+            return None;
+        }
+        let (token, rest) = text.split_at(token_length(text));
+        self.rest = rest;
+        Some(token)
+    }
+}
+
+// The length of the token that the text starts with: up to its second quote, or up to a space. A token ends with its line.
+fn token_length(text: &[u8]) -> usize
+    requires { 0 < length text.now }
+    ensures { (0 < result) × (result ≤ length text.now) }
 {
-    let first = line[at];
-    if first == b' ' || first == b'\n' {
-        return at + 1;
+    let quoted = text[0] == b'\'' || text[0] == b'"';
+    let last = if quoted { text[0] } else { b' ' };
+    match text[1..]
+        .iter()
+        .position(|byte| *byte == last || *byte == b'\n')
+    {
+        None => text.len(),
+        Some(i) => if quoted && text[i + 1] == last {
+            i + 2
+        } else {
+            i + 1
+        },
     }
-    if first == b'#' {
-        return line.len();
-    }
-    let last = closing(first);
-    let mut i = at + 1;
-    while i < line.len() {
-        if line[i] == b'\n' {
-            return i;
-        }
-        if line[i] == last {
-            if last == b' ' {
-                return i;
-            }
-            return i + 1;
-        }
-        i += 1;
-    }
-    i
 }
 
-// Where the line that starts at `at` ends, its newline with it.
-pub fn line_end(text: &[u8], at: usize) -> usize
-    requires { at < length text.now }
-    ensures { (at < result) × (result ≤ length text.now) }
-{
-    let mut i = at;
-    while i < text.len() {
-        if text[i] == b'\n' {
-            return i + 1;
+// A decimal number, if the text is one and not too large. An empty text is 0.
+pub fn decimal(text: &[u8]) -> Option<usize> {
+    let mut number: usize = 0;
+    for byte in text {
+        if !byte.is_ascii_digit() || 100000000000 < number {
+            return None;
         }
-        i += 1;
+        number = number * 10 + usize::from(*byte - b'0');
     }
-    text.len()
+    Some(number)
 }
 
-pub fn same(a: &[u8], b: &[u8]) -> bool {
-    if a.len() != b.len() {
-        return false;
+// The bytes of argument i, at the start of the buffer; none where there is no such argument, or no room for it.
+pub fn arg<'a>(rt: &impl Env, i: usize, buffer: &'a mut [u8]) -> &'a [u8] {
+    match rt.arg(i, buffer) {
+        Ok(n) => &buffer[..n],
+        Err(_) => &[],
     }
-    let mut i = 0;
-    while i < a.len() {
-        if b.len() <= i {
-            return false;
-        }
-        if a[i] != b[i] {
-            return false;
-        }
-        i += 1;
-    }
-    true
 }
 
-// The place of a word in a list of words with a space between them, counted from 0. Each space is a token.
-pub fn find(list: &[u8], word: &[u8]) -> usize {
-    let mut k: usize = 0;
-    let mut at = 0;
-    while at < list.len() {
-        let e = token_end(list, at);
-        if same(&list[at..e], word) {
-            return k / 2;
-        }
-        at = e;
-        k += 1;
-    }
-    NONE
-}
-
-pub fn wide(b: u8) -> usize
-    ensures { result ≤ 255 }
-{
-    b as usize
-}
-
-// A decimal number, if the text is one and not too large.
-#[derive(Clone, Copy)]
-pub enum Parsed {
-    Is(usize),
-    Nothing,
-}
-
-pub fn decimal(t: &[u8]) -> Parsed {
-    let mut n: usize = 0;
-    let mut i = 0;
-    while i < t.len() {
-        let c = wide(t[i]);
-        if c < 48 {
-            return Parsed::Nothing;
-        }
-        if 57 < c {
-            return Parsed::Nothing;
-        }
-        if 100000000000 < n {
-            return Parsed::Nothing;
-        }
-        n = n * 10 + (c - 48);
-        i += 1;
-    }
-    Parsed::Is(n)
+// None where the file cannot be opened, or where its path is no text.
+pub fn open<R: Files>(rt: &R, path: &[u8]) -> Option<R::File> {
+    fs::open(rt, str::from_utf8(path).ok()?).ok()
 }
 
 // Reads until the buffer is full or nothing is left, and says how many bytes were read.
-pub fn read_full(file: &mut impl Read, buf: &mut [u8]) -> io::Result<usize>
-    ensures { IfOk result (λ n. n ≤ length buf.new) }
+pub fn read_full(file: &mut impl Read, buffer: &mut [u8]) -> io::Result<usize>
+    ensures { IfOk result (λ n. n ≤ length buffer.new) }
 {
     let mut filled = 0;
-    for _ in 0..buf.len() {
-        let n = file.read(&mut buf[filled..])?;
+    while filled < buffer.len() {
+        let n = file.read(&mut buffer[filled..])?;
         if n == 0 {
-            return Ok(filled);
+            break;
         }
         filled += n;
     }
