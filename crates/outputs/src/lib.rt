@@ -9,54 +9,65 @@ ghost use Rattle.sheet_form.specs.Form.{as_counts, in_limits};
 ghost use Rattle.sheet_write.specs.Write.{written_of};
 ghost use Rattle.equality.specs.Compare.{answer_of as comparedOf};
 ghost use Rattle.view.specs.Check.{answer_of};
-ghost use Rattle.view_read.specs.Read.{verdict_of, flat_of};
-ghost use Rattle.listing.specs.Match.{matched_of};
+ghost use Rattle.view_read.specs.Read.{verdict_of, flat_of, found_of};
+ghost use Rattle.listing.specs.Match.{matched_of, brought};
 ghost use Rattle.outputs.specs.Outputs.{field_out, truth_out, flat_out, list_out, compared_out};
 ghost use Rattle.outputs.specs.SheetOutputs.{written_out, read_outs, counts_out, after_read};
 
-use equality::Compared;
 use listing::Matched;
 use sheet_form::Counts;
-use view::Answer;
-use view_read::{Flat, Verdict};
-use words::refusal;
+use view::Field;
+use view_read::Flat;
 use words::refusal::Refusal;
 
 // Of a call that hands back a field.
-pub fn put_field(a: Answer, node: &mut usize, len: &mut usize) -> usize
+pub fn put_field(a: Result<Field, Refusal>, node: &mut usize, len: &mut usize) -> usize
     ensures { let told = field_out (answer_of a) node.old len.old in
         (result, node.new, len.new) ≡ told }
 {
     match a {
-        Answer::Built(f) => {
+        Ok(f) => {
             *node = f.node;
             *len = f.len;
             0
         }
-        Answer::Refused(n) => n,
+        Err(r) => r.number(),
     }
 }
 
-// Of a call that compares fields.
-pub fn put_truth(v: Verdict, yes: &mut usize) -> usize
-    ensures { (result, yes.new) ≡ truth_out (verdict_of v) yes.old }
+// Of a call that compares fields or runs.
+pub fn put_truth(v: Result<bool, Refusal>, yes: &mut usize) -> usize
+    ensures fields { (result, yes.new) ≡ truth_out (verdict_of v) yes.old }
+    ensures runs { (result, yes.new) ≡ compared_out (comparedOf v) yes.old }
 {
     match v {
-        Verdict::Yes => {
-            *yes = 1;
+        Ok(b) => {
+            *yes = usize::from(b);
             0
         }
-        Verdict::No => {
-            *yes = 0;
-            0
-        }
-        Verdict::Refused(n) => n,
+        Err(refused) => refused.number(),
     }
 }
 
 // Of flatten.
-pub fn put_flat(f: Flat, in_work: &mut usize, start: &mut usize, count: &mut usize) -> usize
+pub fn put_flat(
+    f: Result<Flat, Refusal>,
+    in_work: &mut usize,
+    start: &mut usize,
+    count: &mut usize,
+) -> usize
     ensures { let told = flat_out (flat_of f) in_work.old start.old count.old in
+        (result, in_work.new, start.new, count.new) ≡ told }
+{
+    match f {
+        Ok(found) => put_found(found, in_work, start, count),
+        Err(r) => r.number(),
+    }
+}
+
+// Where flatten found or put the terms.
+fn put_found(f: Flat, in_work: &mut usize, start: &mut usize, count: &mut usize) -> usize
+    ensures { let told = flat_out (found_of f) in_work.old start.old count.old in
         (result, in_work.new, start.new, count.new) ≡ told }
 {
     match f {
@@ -72,44 +83,36 @@ pub fn put_flat(f: Flat, in_work: &mut usize, start: &mut usize, count: &mut usi
             *count = n;
             0
         }
-        Flat::Refused(n) => n,
     }
 }
 
 // Of a listing.
-pub fn put_list(m: Matched, count: &mut usize, entries: &mut usize) -> usize
+pub fn put_list(m: Result<Matched, Refusal>, count: &mut usize, entries: &mut usize) -> usize
     ensures { let told = list_out (matched_of m) count.old entries.old in
         (result, count.new, entries.new) ≡ told }
 {
     match m {
-        Matched::Listed(c, k) => {
-            *count = c;
-            *entries = k;
-            0
-        }
-        Matched::More(c, k) => {
-            *count = c;
-            *entries = k;
-            refusal::MORE_THAN_FIT
-        }
-        Matched::Refused(n) => n,
+        Ok(b) => put_brought(b, count, entries),
+        Err(r) => r.number(),
     }
 }
 
-// Of a comparison of runs.
-pub fn put_compared(c: Compared, equal: &mut usize) -> usize
-    ensures { (result, equal.new) ≡ compared_out (comparedOf c) equal.old }
+// What a listing brings.
+fn put_brought(m: Matched, count: &mut usize, entries: &mut usize) -> usize
+    ensures { let told = list_out (brought m) count.old entries.old in
+        (result, count.new, entries.new) ≡ told }
 {
-    match c {
-        Compared::Equal => {
-            *equal = 1;
+    match m {
+        Matched::Listed { count: c, entries: k } => {
+            *count = c;
+            *entries = k;
             0
         }
-        Compared::Different => {
-            *equal = 0;
-            0
+        Matched::More { count: c, entries: k } => {
+            *count = c;
+            *entries = k;
+            Refusal::MoreThanFit.number()
         }
-        Compared::Refused(n) => n,
     }
 }
 

@@ -267,7 +267,7 @@ pub extern "C" fn naldrev_compare_runs(
         second_start,
         second_len,
     );
-    outputs::put_compared(compared, yes)
+    outputs::put_truth(compared, yes)
 }
 
 // ---- matching ----

@@ -10,11 +10,11 @@ ghost use Rattle.sheet_spec.specs.Job.{listing_slots, laid_at, written, refusal_
 ghost use Rattle.sheet_form.specs.Form.{line_bytes, zeros};
 ghost use Rattle.sheet_write.specs.Write.{written_of};
 ghost use Rattle.view.specs.Check.{as_field, store_of};
-ghost use Rattle.listing.specs.Match.{matched_of, request_of};
+ghost use Rattle.listing.specs.Match.{brought, matched_of, request_of};
 ghost use Rattle.sheet_job.specs.Parts.{node_words, name_words, blank_slots, Candidates, listed_text, built_text};
 
 use listing::Matched;
-use view::{Answer, Field};
+use view::Field;
 use words::refusal::Refusal;
 
 // "It lends 65 nodes, 1,024 terms and 16 slots"
@@ -95,16 +95,33 @@ fn print_candidates(
     Ok(all)
 }
 
+// What a listing brings.
+fn print_brought(m: Matched, slots: &[u32], out: &mut [u8]) -> Result<usize, Refusal>
+    requires { Fits (brought m) (length slots.now) }
+    ensures { let text = listing_text (brought m) slots.now in
+        (written_of result, out.new) ≡ written text out.old }
+{
+    match m {
+        Matched::Listed { count, entries } => print_candidates(0, count, entries, slots, out),
+        Matched::More { count, entries } => {
+            print_candidates(Refusal::MoreThanFit.number(), count, entries, slots, out)
+        }
+    }
+}
+
 // What a listing prints.
-fn print_listing(m: Matched, slots: &[u32], out: &mut [u8]) -> Result<usize, Refusal>
+fn print_listing(
+    m: Result<Matched, Refusal>,
+    slots: &[u32],
+    out: &mut [u8],
+) -> Result<usize, Refusal>
     requires { Fits (matched_of m) (length slots.now) }
     ensures { let text = listing_text (matched_of m) slots.now in
         (written_of result, out.new) ≡ written text out.old }
 {
     match m {
-        Matched::Listed(c, k) => print_candidates(0, c, k, slots, out),
-        Matched::More(c, k) => print_candidates(Refusal::MoreThanFit.number(), c, k, slots, out),
-        Matched::Refused(n) => print_refusal(n, out),
+        Ok(b) => print_brought(b, slots, out),
+        Err(r) => print_refusal(r.number(), out),
     }
 }
 
@@ -191,8 +208,8 @@ fn list_runs(
     let mut nodes = [0u32; NODE_WORDS];
     let mut made = 1;
     match view::from_runs(names, terms, terms_used, &mut nodes, &mut made, runs) {
-        Answer::Refused(n) => print_refusal(n, out),
-        Answer::Built(f) => list_field(names, terms, terms_used, &nodes, made, f, pattern, out),
+        Err(r) => print_refusal(r.number(), out),
+        Ok(f) => list_field(names, terms, terms_used, &nodes, made, f, pattern, out),
     }
 }
 

@@ -1,35 +1,22 @@
--- `print_listing`: what is printed for each case of the answer.
-use mathlib.Core.Path.{◌≡◌, ap, sym, ◌∙◌}
-use Rattle.words.specs.Refusals.{spec_number}
-use Rattle.calls_spec.specs.Step.{answer_number, slots_of}
+-- What is printed for a listing, or for its refusal.
+use mathlib.Core.Path.{ap, sym, ◌∙◌}
 use Rattle.sheet_spec.specs.Job.{written, listing_text}
 use Rattle.sheet_spec.proofs.ShownLaws.{refusal_listed}
 use Rattle.listing.specs.Match.{matched_of}
-use Rattle.sheet_job.specs.JobLaws.{fits_listed}
 use Rattle.sheet_job.proofs.print_listing.Goals as goal
 
-pub print_candidates-requires : goal.print_candidates-requires
+pub print_brought-requires : goal.print_brought-requires
 unfolding matched_of
-print_candidates-requires c = fits_listed _ 0 _ _ _ (ap matched_of c.in-Listed.is) c.requires
+print_brought-requires c = rw c.in-Ok.is at c.requires
 
-pub print_candidates-requires-in-More : goal.print_candidates-requires-in-More
+pub returns-in-Ok : goal.returns-in-Ok
 unfolding matched_of
-print_candidates-requires-in-More c = fits_listed _ 15 _ _ _ (ap matched_of c.in-More.is) c.requires
+returns-in-Ok c =
+    c.print_brought.ensures ∙ ap (λ x. written (listing_text (matched_of x) c.args.slots.now) c.args.out.now) (sym c.in-Ok.is)
 
-pub returns-in-Listed : goal.returns-in-Listed
-unfolding matched_of answer_number slots_of listing_text
-returns-in-Listed c =
-    c.print_candidates.ensures ∙ ap (λ x. written (listing_text (matched_of x) c.args.slots.now) c.args.out.now) (sym c.in-Listed.is)
-
-pub returns-in-More : goal.returns-in-More
-unfolding matched_of answer_number slots_of listing_text spec_number
-returns-in-More c =
-    let e : c.number.result ≡ 15 = c.number.ensures in
-    (rw e at c.print_candidates-in-More.ensures) ∙ ap (λ x. written (listing_text (matched_of x) c.args.slots.now) c.args.out.now) (sym c.in-More.is)
-
-pub returns-in-Refused : goal.returns-in-Refused
+pub returns-in-Err : goal.returns-in-Err
 unfolding matched_of
-returns-in-Refused c =
+returns-in-Err c =
     let lent = c.args in
-    c.print_refusal.ensures ∙ ap (λ x. written x lent.out.now) (refusal_listed _ lent.slots.now)
-    ∙ ap (λ x. written (listing_text (matched_of x) lent.slots.now) lent.out.now) (sym c.in-Refused.is)
+    (rw c.number.ensures at c.print_refusal.ensures) ∙ ap (λ x. written x lent.out.now) (refusal_listed _ lent.slots.now)
+    ∙ ap (λ x. written (listing_text (matched_of x) lent.slots.now) lent.out.now) (sym c.in-Err.is)
