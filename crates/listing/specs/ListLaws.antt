@@ -21,7 +21,6 @@ use Rattle.view_spec.specs.Read.{copy, settled_run}
 use Rattle.view_spec.proofs.SettleLaws.{Settles, settles}
 use Rattle.match_spec.specs.Pattern.{item_layout, binding_layout, bound_run, binding_name, pattern_rule, pattern_limit, name_limit}
 use Rattle.match_spec.proofs.NameLaws.{names_grow}
-use Rattle.match_spec.specs.Walk.{runs}
 use Rattle.match_spec.specs.Answer.{Wanted, Progress, spec_slots_in, absorb, number_of}
 use Rattle.match_spec.proofs.RunLaws.{Inside}
 use Rattle.calls_spec.specs.Store.{Store, terms, nodes, capacity, add_terms}

@@ -1,5 +1,5 @@
 -- What a listing answers and leaves, as the specification has it.
-use Rattle.std.specs.Prelude.{◌≡◌, List, [], ◌∷◌, map, Bool, ◌&&◌, leb, length, ℕ, ◌+◌, ◌*◌, ◌<◌}
+use Rattle.std.specs.Prelude.{Result, Ok, Err, ◌≡◌, List, [], ◌∷◌, map, Bool, ◌&&◌, leb, length, ℕ, ◌+◌, ◌*◌, ◌<◌}
 use Rattle.std.proofs.Math.Option.{Option, none}
 use Rattle.term_spec.specs.Words.{whole, count, records}
 use Rattle.term_spec.specs.Term.{Run, runs_rule}
@@ -17,13 +17,19 @@ use Rattle.matcher.specs.declared.Goal.{Goal}
 use Rattle.matcher.specs.declared.Tally.{Tally}
 use Rattle.matcher.specs.Ready.{Given, reading_of, pattern_from, Ready, SlotsReady, Written}
 use Rattle.listing.specs.declared.Matched.{Matched}
-use Rattle.listing.specs.declared.Matched.TheVariants.{Listed, More, Refused}
+use Rattle.listing.specs.declared.Matched.TheVariants.{Listed, More}
+use Rattle.words.specs.declared.refusal.Refusal.{Refusal}
+use Rattle.words.specs.Refusals.{spec_number}
 
 -- 01's number and values for each case.
-unfoldable pub matched_of : Matched → Answer
-matched_of (Listed c k) = listed 0 c k
-matched_of (More c k) = listed more_than_fit c k
-matched_of (Refused n) = refused n
+unfoldable pub brought : Matched → Answer
+brought (Listed c k) = listed 0 c k
+brought (More c k) = listed more_than_fit c k
+
+-- The same, or a refusal's number.
+unfoldable pub matched_of : Result Matched Refusal → Answer
+matched_of (Ok m) = brought m
+matched_of (Err r) = refused (spec_number r)
 
 -- What a call leaves that is lent slots and no work buffer.
 unfoldable pub leaves_slots : Answer → Store → List ℕ → After

@@ -10,21 +10,19 @@ ghost use Rattle.match_spec.specs.Pattern.{name_limit};
 ghost use Rattle.match_spec.specs.Answer.{allOfThem, headOnly, spec_slots_in, number_of};
 ghost use Rattle.calls_spec.specs.Step.{call_match, step, match_answer, spec_name_count};
 ghost use Rattle.view.specs.Check.{as_field, store_of, numbered};
+ghost use Rattle.words.specs.Refusals.{told_number};
 ghost use Rattle.matcher.specs.Ready.{status_of, wanted_of};
 ghost use Rattle.listing.specs.Match.{matched_of, leaves_slots, request_of, even_words, refused_to8};
 
 use matcher::{Goal, Tally, status};
 use view::Field;
-use view_read::Settled;
-use words::refusal;
+use words::refusal::Refusal;
 
-// What a listing answers: all candidates, with their count and the number of names; the slots are full and a further candidate exists; a
-// refusal.
+// What a listing brings, with its count and the number of names: all candidates; or those that fill the slots, where a further one exists.
 #[derive(Clone, Copy)]
 pub enum Matched {
-    Listed(usize, usize),
-    More(usize, usize),
-    Refused(usize),
+    Listed { count: usize, entries: usize },
+    More { count: usize, entries: usize },
 }
 
 // 1 Uneven, of pattern and bindings: whole, and at most 256 pattern records.
@@ -40,8 +38,8 @@ fn request_even(pattern: &[u32], bindings: &[u32]) -> bool
     bindings.len() % items::BINDING_WIDTH == 0
 }
 
-// 0, or the first of 1 to 8 that applies.
-fn refusal(
+// The first of 1 to 8 that applies.
+fn check_request(
     names: &[u8],
     terms: &[u32],
     terms_used: usize,
@@ -50,11 +48,11 @@ fn refusal(
     f: Field,
     pattern: &[u32],
     bindings: &[u32],
-) -> usize
+) -> Result<(), Refusal>
     ensures { let before = store_of names.now terms.now terms_used nodes.now nodes_used in
-        result ≡ numbered (refused_to8 before (as_field f) pattern.now bindings.now) }
+        told_number result ≡ numbered (refused_to8 before (as_field f) pattern.now bindings.now) }
 {
-    let number = view::check(
+    view::check(
         names,
         terms,
         terms_used,
@@ -63,20 +61,17 @@ fn refusal(
         request_even(pattern, bindings),
         f,
         Field::EMPTY,
-    );
-    if number != 0 {
-        return number;
-    }
+    )?;
     if !pattern::bindings_inside(bindings, terms_used) {
-        return refusal::PAST_END;
+        return Err(Refusal::PastEnd);
     }
     if !pattern::pattern_ok(names, pattern) {
-        return refusal::BAD_PATTERN;
+        return Err(Refusal::BadPattern);
     }
     if !pattern::bindings_ok(names, bindings) {
-        return refusal::BAD_BINDING;
+        return Err(Refusal::BadBinding);
     }
-    0
+    Ok(())
 }
 
 // How many names pattern and bindings have together, by which a caller sizes slots: a slot has twice as many words. 0 where 1, 7, 8 or 9
@@ -117,22 +112,28 @@ fn slots_in(words: usize, names: usize) -> usize
 }
 
 // The answer of a walk that has ended.
-fn answer(t: Tally, names: usize) -> Matched
+fn answer(t: Tally, names: usize) -> Result<Matched, Refusal>
     ensures { let status = status_of t.stop in
         ((w : List (List SpecRun)) → length w ≡ t.count → matched_of result ≡ match_answer (number_of status w) t.count names) }
 {
     if t.stop == status::FULL {
-        return Matched::More(t.count, names);
+        return Ok(Matched::More {
+            count: t.count,
+            entries: names,
+        });
     }
     if status::CALLED <= t.stop {
-        return Matched::Refused(refusal::CALLS_ARE_NOT_PATTERNS);
+        return Err(Refusal::CallsAreNotPatterns);
     }
     if t.stop == status::GOING {
         if t.count == 0 {
-            return Matched::Refused(refusal::NO_MATCH);
+            return Err(Refusal::NoMatch);
         }
     }
-    Matched::Listed(t.count, names)
+    Ok(Matched::Listed {
+        count: t.count,
+        entries: names,
+    })
 }
 
 // The candidates of a pattern over a field, or the head of their list.
@@ -147,13 +148,13 @@ fn list(
     bindings: &[u32],
     slots: &mut [u32],
     head: bool,
-) -> Matched
+) -> Result<Matched, Refusal>
     ensures { let before = store_of names.now terms.old terms_used.old nodes.now nodes_used in
         let after = store_of names.now terms.new terms_used.new nodes.now nodes_used in
         let request = request_of (as_field f) pattern.now bindings.now slots.old in
         leaves_slots (matched_of result) after slots.new ≡ step before (call_match (wanted_of head) request) }
 {
-    let number = refusal(
+    check_request(
         names,
         terms,
         *terms_used,
@@ -162,37 +163,30 @@ fn list(
         f,
         pattern,
         bindings,
-    );
-    if number != 0 {
-        return Matched::Refused(number);
-    }
+    )?;
     if items::NAME_LIMIT < bindings.len() / items::BINDING_WIDTH {
-        return Matched::Refused(refusal::TOO_MANY_NAMES);
+        return Err(Refusal::TooManyNames);
     }
     let mut numbers = [0u32; items::PATTERN_LIMIT];
     let entries = pattern::number_names(names, pattern, bindings, &mut numbers);
     if items::NAME_LIMIT < entries {
-        return Matched::Refused(refusal::TOO_MANY_NAMES);
+        return Err(Refusal::TooManyNames);
     }
-    match view_read::settle(terms, terms_used, nodes, f) {
-        Settled::Refused(n) => Matched::Refused(n),
-        Settled::At(run) => {
-            let cap = slots_in(slots.len(), entries);
-            let g = Goal { entries, cap, head };
-            let tally = walks::walk_from(
-                names,
-                terms,
-                *terms_used,
-                pattern,
-                &numbers,
-                bindings,
-                run,
-                g,
-                slots,
-            );
-            answer(tally, entries)
-        }
-    }
+    let run = view_read::settle(terms, terms_used, nodes, f)?;
+    let cap = slots_in(slots.len(), entries);
+    let g = Goal { entries, cap, head };
+    let tally = walks::walk_from(
+        names,
+        terms,
+        *terms_used,
+        pattern,
+        &numbers,
+        bindings,
+        run,
+        g,
+        slots,
+    );
+    answer(tally, entries)
 }
 
 // Lists the candidates of a pattern over a field, from starting bindings, into slots.
@@ -206,7 +200,7 @@ pub fn match_pattern_with_bindings_candidates(
     pattern: &[u32],
     bindings: &[u32],
     slots: &mut [u32],
-) -> Matched
+) -> Result<Matched, Refusal>
     ensures { let before = store_of names.now terms.old terms_used.old nodes.now nodes_used in
         let after = store_of names.now terms.new terms_used.new nodes.now nodes_used in
         let request = request_of (as_field f) pattern.now bindings.now slots.old in
@@ -229,7 +223,7 @@ pub fn match_pattern_first(
     pattern: &[u32],
     bindings: &[u32],
     slots: &mut [u32],
-) -> Matched
+) -> Result<Matched, Refusal>
     ensures { let before = store_of names.now terms.old terms_used.old nodes.now nodes_used in
         let after = store_of names.now terms.new terms_used.new nodes.now nodes_used in
         let request = request_of (as_field f) pattern.now bindings.now slots.old in

@@ -29,7 +29,7 @@ variables_spec =
     invariant_loop
     decreases_loop
     (λ c. (omega arith, omega arith))
-    (λ c κs. omega arith)
+    (λ c κs. (search rules, omega arith))
     (λ c κs. search rules)
     (λ c. omega (arith, c.loop-i.invariant.0, c.loop-i.invariant.1))
     (λ c. omega (arith, c.loop-i-test.true))
