@@ -1,5 +1,5 @@
 -- Each exit is one law of equality.
-use Rattle.std.proofs.Common.{◌≡◌, List, true, ℕ, ◌+◌, ◌-◌, ◌*◌, ◌<◌, ◌≤◌, arith, rules, sym, ◌∙◌}
+use Rattle.std.proofs.Common.{◌≡◌, List, true, ℕ, ◌+◌, ◌≤◌, arith, rules, sym, ◌∙◌}
 use Rattle.value.specs.Equal.{equal_at}
 use Rattle.value.specs.EqualLaws.{depth_inside, runs_lengths, runs_same, runs-all, runs_none}
 use Rattle.term_spec.specs.Words.{record_at}
