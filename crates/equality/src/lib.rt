@@ -7,7 +7,7 @@ ghost use Rattle.std.specs.Prelude.{◌≡◌, List, true, false, ℕ, ◌+◌, 
 ghost use Rattle.value.specs.Equal.{TermStore, equal_at, spec_equal_runs};
 ghost use Rattle.equality.specs.Compare.{compared_runs, answer_of};
 ghost use Rattle.equality.specs.Within.{TermsIn, RunsIn, same_runs, Tells};
-ghost use Rattle.equality.specs.Memory.{Memory};
+ghost use Rattle.equality.specs.Memory.{Memory, Says};
 ghost use Rattle.words.specs.Records.{as_run};
 ghost use Rattle.term_spec.specs.Words.{Lies};
 ghost use Rattle.term_spec.specs.Term.{term_layout, limit};
@@ -17,7 +17,8 @@ use words::{Run, Term};
 
 // ---- within a budget ----
 
-// What comparing within a budget tells: nothing once the budget is spent; otherwise whether the two are equal, and what is left of it.
+// What comparing within a budget tells: nothing once the budget is spent; otherwise whether the two are equal, and what is left of it. The three names
+// say more than a flag beside what is left, in an Option, would.
 #[derive(Clone, Copy)]
 pub enum Outcome {
     Different(usize),
@@ -146,10 +147,23 @@ const BUDGET: usize = 65534;
 // The words for a store of any size.
 pub const MEMORY: usize = words::LIMIT + 1;
 
-fn wide(x: u16) -> usize
-    ensures { result ≡ x }
-{
-    x as usize
+// What the word after the terms' says: that they are numbered, or what the comparisons so far have taken.
+#[derive(Clone, Copy)]
+enum Kept {
+    Numbered,
+    Spent(usize),
+}
+
+impl Kept {
+    fn read(word: u16) -> Self
+        ensures { Says word result }
+    {
+        let spent = usize::from(word);
+        if BUDGET < spent {
+            return Kept::Numbered;
+        }
+        Kept::Spent(spent)
+    }
 }
 
 // All terms are numbered, for this comparison and those after it.
@@ -190,10 +204,12 @@ fn equal_kept(
     if known.len() <= used {
         return equal_alone(names, terms, used, first, second);
     }
-    let spent = wide(known[used]);
-    if BUDGET < spent {
-        return numbers::equal_numbered(known, first, second);
-    }
+    let spent = match Kept::read(known[used]) {
+        Kept::Numbered => {
+            return numbers::equal_numbered(known, first, second);
+        }
+        Kept::Spent(spent) => spent,
+    };
     match equal_runs_within(names, terms, first, second, BUDGET - spent) {
         Outcome::Different(rest) => {
             known[used] = (BUDGET - rest) as u16;

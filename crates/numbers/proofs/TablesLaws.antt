@@ -1,17 +1,17 @@
 -- Laws of the tables: empty ones, looking for an equal term along a chain, and one term more.
-use Rattle.std.specs.Prelude.{◌≡◌, refl, List, ◌⊎◌, Bool, false, eqb, length, set, replicate}
+use Rattle.std.specs.Prelude.{◌≡◌, refl, List, Option, Some, None, ◌⊎◌, false, eqb, length, set, replicate}
 use Rattle.std.proofs.Common.{ap, ◌∙◌, inl, inr, length-set, get_or-set_same, get_or-set_other}
 use Rattle.std.proofs.Math.Path.{sym}
 use Rattle.std.proofs.Math.Bool.{true}
 use borrow.Author.Tests.{eq-eqb, ne_eqb}
 use Rattle.std.proofs.Math.ListN.{get_or}
 use Rattle.std.proofs.lemmas.List.{length-replicate}
-use Prim.Native.Nat.{ℕ, suc, zero, ◌+◌, ◌-◌, ◌<◌, ◌≤◌}
+use Prim.Native.Nat.{ℕ, suc, ◌+◌, ◌<◌, ◌≤◌}
 use native.Mathlib.Omega.{arith}
 use Rattle.term_spec.specs.Words.{record_at}
 use Rattle.term_spec.specs.Term.{Term, term_layout, limit}
 use Rattle.value.specs.Equal.{TermStore, equal_at}
-use Rattle.numbers.specs.Buckets.{buckets, Chains}
+use Rattle.numbers.specs.Buckets.{buckets, entry, Chains}
 use Rattle.numbers.specs.ChainLaws.{chains_none, chains_same, chains_passed, chains_entered, below_next}
 use Rattle.numbers.specs.ChainLaws.{sought_head, sought_low, sought_entered, sought_next, sought_none}
 use Rattle.numbers.specs.Numbers.{Entered, key_of, key_at, Tables, Searched, Placed}
@@ -38,8 +38,8 @@ tables_none base names w used numbers store few room = record {
 -- Term k, t, has bucket b.
 module _ {base : ℕ} {names w : List ℕ} {used k : ℕ} {numbers heads earlier : List ℕ} (tables : Tables base names w used k numbers heads earlier)
     {b : ℕ} {t : Term} (key : b ≡ key_of base names numbers t) (read : t ≡ record_at term_layout w k) where
-  pub key_room : b < length heads
-  key_room = omega (arith, key_below base names numbers t, tables.heads-room)
+  pub key_room : b < buckets
+  key_room = omega (arith, key_below base names numbers t)
 
   pub key_here : b ≡ key_at base names w numbers k
   key_here = key ∙ ap (key_of base names numbers) read
@@ -54,26 +54,24 @@ module _ {base : ℕ} {names w : List ℕ} {used k : ℕ} {numbers heads earlier
         (head ∙ ap (λ z. get_or heads z 0) key_here);
   }
 
-module _ {base : ℕ} {names w : List ℕ} {used : ℕ} {numbers heads earlier : List ℕ} {k at : ℕ}
-    (here : Searched base names w used numbers heads earlier k at) where
-  module _ (more : at ≡ 0 → ⊥) {b : Bool} (told : b ≡ equal_at names w used (at - 1) k) where
-    -- The place was not it: the next one of the chain.
-    pub searched_next : b ≡ false → Searched base names w used numbers heads earlier k (get_or earlier (at - 1) 0)
+module _ {base : ℕ} {names w : List ℕ} {used : ℕ} {numbers heads earlier : List ℕ} {k : ℕ} where
+  -- Place c is looked at.
+  module _ {c : ℕ} (here : Searched base names w used numbers heads earlier k (suc c)) where
+    -- It was not it: the one before it in its chain.
+    pub searched_next : equal_at names w used c k ≡ false → Searched base names w used numbers heads earlier k (get_or earlier c 0)
     searched_next other = record {
       tables = here.tables;
       below = here.below;
-      sought = sought_next here.sought more (λ same. never same (sym told ∙ other));
+      sought = sought_next here.sought (λ same. never same other);
     }
 
-    pub placed_here : b ≡ true → Placed names w used numbers k at
+    pub placed_here : equal_at names w used c k ≡ true → Placed names w used numbers k (suc c)
     unfolding Placed
-    placed_here same =
-        let place : at ≡ suc (at - 1) = omega arith in
-        rw place (sought_low here.sought more, sought_entered here.sought more, sym told ∙ same)
+    placed_here same = (sought_low here.sought, sought_entered here.sought, same)
 
-  pub placed_nowhere : at ≡ 0 → Placed names w used numbers k 0
+  pub placed_nowhere : {at : ℕ} → Searched base names w used numbers heads earlier k at → at ≡ 0 → Placed names w used numbers k 0
   unfolding Placed
-  placed_nowhere e = sought_none here.sought e
+  placed_nowhere here e = sought_none here.sought e
 
 -- What was found, as facts.
 pub record Found (names w : List ℕ) (used : ℕ) (numbers : List ℕ) (k c : ℕ) : Type 0 where
@@ -81,16 +79,13 @@ pub record Found (names w : List ℕ) (used : ℕ) (numbers : List ℕ) (k c : �
   pub own : Entered numbers c
   pub same : equal_at names w used c k ≡ true
 
-pub placed_none : (names w : List ℕ) (used : ℕ) (numbers : List ℕ) (k at : ℕ) → Placed names w used numbers k at → at ≡ 0 → Placed names w used numbers k 0
-placed_none names w used numbers k at h e = rw e at h
+module _ (names w : List ℕ) (used : ℕ) (numbers : List ℕ) (k : ℕ) (place : Option ℕ) (told : Placed names w used numbers k (entry place)) where
+  pub placed_none : place ≡ None → Placed names w used numbers k 0
+  placed_none e = rw e at told
 
-pub placed-found : (names w : List ℕ) (used : ℕ) (numbers : List ℕ) (k at : ℕ) → Placed names w used numbers k at → (at ≡ 0 → ⊥)
-    → Found names w used numbers k (at - 1)
-unfolding Placed
-placed-found names w used numbers k zero h n = absurd (n refl)
-placed-found names w used numbers k (suc c) h n =
-    let e : suc c - 1 ≡ c = omega arith in
-    rw e (record { low = h.0; own = h.1; same = h.2 })
+  pub placed_found : {c : ℕ} → place ≡ Some c → Found names w used numbers k c
+  unfolding Placed
+  placed_found e = let (low, own, same) = rw e at told in record { low = low; own = own; same = same }
 
 -- ---- one term more ----
 

@@ -1,10 +1,15 @@
 -- Chains of places, one for each bucket: `heads` has for each bucket the place entered last, plus one, and `earlier` for each place the one that was
 -- entered before it in its bucket, plus one; 0 stands for none.
-use Rattle.std.specs.Prelude.{◌≡◌, List, get_or, ℕ, suc, ◌<◌, ◌≤◌}
+use Rattle.std.specs.Prelude.{◌≡◌, List, Option, Some, None, get_or, ℕ, suc, ◌<◌, ◌≤◌}
 
 -- How many buckets there are.
 abbrev pub buckets : ℕ
 buckets = 8192
+
+-- A place, if there is one, as it is written: plus one, and 0 where there is none.
+abbrev pub entry : Option ℕ → ℕ
+entry None = 0
+entry (Some c) = suc c
 
 -- The chains of the places below k that are entered, each in the bucket that `key` gives it.
 pub record Chains (key : ℕ → ℕ) (Entered : ℕ → Type 0) (k : ℕ) (heads earlier : List ℕ) : Type 0 where

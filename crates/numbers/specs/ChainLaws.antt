@@ -1,5 +1,5 @@
 -- Laws of chains: none entered yet; another key and another test that are the same below; one place passed; one place entered; looking along one.
-use Rattle.std.specs.Prelude.{◌≡◌, List, ◌⊎◌, length, get_or, set, replicate, ℕ, suc, ◌+◌, ◌-◌, ◌<◌, ◌≤◌}
+use Rattle.std.specs.Prelude.{◌≡◌, refl, List, ◌⊎◌, length, get_or, set, replicate, ℕ, suc, ◌+◌, ◌<◌, ◌≤◌}
 use Rattle.std.proofs.Common.{sym, ap, ◌∙◌, inl, inr, get_or-set_same, get_or-set_other, arith}
 use Rattle.std.proofs.Math.Decide.{ℕ_discrete, dec_lt}
 use Rattle.term_spec.proofs.ListLaws.{zeros-at}
@@ -159,38 +159,36 @@ module _ {key : ℕ → ℕ} {Entered Wanted : ℕ → Type 0} {k : ℕ} {heads 
     all = λ i lt x y. rw (e, ← bucket i lt x y) (chains.heads-last i lt x);
   }
 
-  module _ {at : ℕ} (here : Sought key Entered Wanted k heads earlier b at) (more : at ≡ 0 → ⊥) where
-    place : at ≡ suc (at - 1)
-    place = omega arith
-
-    pub sought_low : at - 1 < k
+  -- Place c is looked at.
+  module _ {c : ℕ} (here : Sought key Entered Wanted k heads earlier b (suc c)) where
+    pub sought_low : c < k
     sought_low = let h = here.low in omega arith
 
-    pub sought_entered : Entered (at - 1)
-    sought_entered = (here.in_bucket (at - 1) place).0
+    pub sought_entered : Entered c
+    sought_entered = (here.in_bucket c refl).0
 
-    pub sought_less : get_or earlier (at - 1) 0 < at
-    sought_less = let h = here.chains.earlier_low (at - 1) in omega arith
+    pub sought_less : get_or earlier c 0 < suc c
+    sought_less = let h = here.chains.earlier_low c in omega arith
 
-    -- The place was not wanted: the one before it in its chain.
-    module _ (other : Wanted (at - 1) → ⊥) where
-      before_in : (d : ℕ) → get_or earlier (at - 1) 0 ≡ suc d → Entered d × (key d ≡ b)
+    -- It was not wanted: the one before it in its chain.
+    module _ (other : Wanted c → ⊥) where
+      before_in : (d : ℕ) → get_or earlier c 0 ≡ suc d → Entered d × (key d ≡ b)
       before_in d e =
-          let (x, y) = here.in_bucket (at - 1) place in
-          let (u, v) = here.chains.earlier_in (at - 1) d sought_low x e in
+          let (x, y) = here.in_bucket c refl in
+          let (u, v) = here.chains.earlier_in c d sought_low x e in
           (u, v ∙ y)
 
-      before-all : (i : ℕ) → i < k → Entered i → Wanted i → i < get_or earlier (at - 1) 0
-      before-all i lt x y = go (ℕ_discrete i (at - 1))
+      before-all : (i : ℕ) → i < k → Entered i → Wanted i → i < get_or earlier c 0
+      before-all i lt x y = go (ℕ_discrete i c)
         where
-          go : Dec (i ≡ at - 1) → i < get_or earlier (at - 1) 0
+          go : Dec (i ≡ c) → i < get_or earlier c 0
           go (yes q) = absurd (other (rw q at y))
           go (no q) =
-              let (u, v) = here.in_bucket (at - 1) place in
+              let (u, v) = here.in_bucket c refl in
               let h = here.all i lt x y in
-              here.chains.earlier-last (at - 1) i sought_low u (omega arith) x (here.bucket i lt x y ∙ sym v)
+              here.chains.earlier-last c i sought_low u (omega arith) x (here.bucket i lt x y ∙ sym v)
 
-      pub sought_next : Sought key Entered Wanted k heads earlier b (get_or earlier (at - 1) 0)
+      pub sought_next : Sought key Entered Wanted k heads earlier b (get_or earlier c 0)
       sought_next = record {
         chains = here.chains;
         bucket = here.bucket;

@@ -1,10 +1,9 @@
 -- Laws of digests: they are below the prime, a list's is had from those of its parts, and leading zeros change none. And laws of the marks.
 use Rattle.std.specs.Prelude.{◌≡◌, Bool, take, drop, get_or, set, replicate}
 use Rattle.std.proofs.Math.Path.{refl, ap, sym}
-use Rattle.std.proofs.Common.{◌∙◌, ⊎_elim, le-leb, eqb→eq, length-set, pow-add, take-add, take-suc, get_or-set_same, get_or-set_other, eq-or-lt_of_le, add-mul, mul_comm, mul-le-mul, pow-suc, add-one}
+use Rattle.std.proofs.Common.{◌∙◌, ⊎_elim, le-leb, eqb→eq, length-set, length-drop, pow-add, take-add, take-suc, get_or-drop, get_or-set_same, get_or-set_other, eq-or-lt_of_le, add-mul, mul_comm, mul-le-mul, pow-suc, add-one}
 use mathlib.Core.List.{List, [], ◌∷◌, ◌++◌, map, map-append}
 use Rattle.std.proofs.Math.Bool.{true, false}
-use Rattle.std.proofs.lemmas.Bool.{lt-leb}
 use Rattle.std.proofs.Math.ListN.{length, length-replicate}
 use Rattle.std.proofs.lemmas.List.{take-set-le}
 use Prim.Native.Nat.{ℕ, suc, ◌+◌, ◌*◌, ◌-◌, ◌/◌, ◌%◌, ◌^◌, ◌<◌, ◌≤◌}
@@ -12,7 +11,7 @@ use Rattle.std.proofs.Math.Nat.{add_assoc, mul_assoc, pow-zero, pow-succ', div-a
 use native.Mathlib.Omega.{arith}
 use Rattle.term_spec.proofs.BoolLaws.{true-T}
 use Rattle.term_spec.proofs.ListLaws.{zeros-at, part_length}
-use Rattle.term_spec.specs.Text.{lower, zero_digit, is_zero, stripped}
+use Rattle.term_spec.specs.Text.{lower, zero_digit, is_zero, stripped, text_at}
 use Rattle.numbers.specs.Digest.{prime, stride, more, digest_from, digest, digit, Marked}
 
 -- ---- arithmetic modulo the prime ----
@@ -132,21 +131,6 @@ module _ (base : ℕ) where
       let parts = digest-parts (take s l) rest ∙ ap (λ k. (front * base ^ k + digest base rest) % prime) (part_length l s n h) in
       let whole = ap (digest base) (take-add s n l) ∙ parts in
       rw (whole, times_mod front (base ^ n) prime) (minus_mod (front * base ^ n) (digest base rest) (digest-below rest))
-
--- ---- lowering ----
-
--- A byte before the capitals, one after them, and a capital.
-pub lower-before : (c : ℕ) → c < 65 → lower c ≡ c
-unfolding lower
-lower-before c h = rw (lower, lt-leb 65 c h)
-
-pub lower-after : (c : ℕ) → 90 < c → lower c ≡ c
-unfolding lower
-lower-after c h = rw (lower, le-leb 65 c (omega arith), lt-leb c 90 h)
-
-pub lower_capital : (c : ℕ) → 65 ≤ c → c ≤ 90 → lower c ≡ c + 32
-unfolding lower
-lower_capital c h k = rw (lower, le-leb 65 c h, le-leb c 90 k)
 
 -- ---- marks ----
 

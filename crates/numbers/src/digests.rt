@@ -11,6 +11,7 @@ pub const PRIME: usize = 2147483647;
 pub const BASE: usize = 1103515245;
 
 // The digest of a list with one number more, h being its digest without it.
+#[tactic(auto, unfolding(crate::specs::Digest::more))]
 pub fn mix(base: usize, h: usize, x: usize) -> usize
     requires { (base < prime) × (h < prime) }
     ensures { result ≡ more base h x }
@@ -18,43 +19,26 @@ pub fn mix(base: usize, h: usize, x: usize) -> usize
     (h * base + x % PRIME) % PRIME
 }
 
-fn small(b: u8) -> usize
-    ensures { result ≡ b }
-{
-    b as usize
-}
-
 // A byte as identifiers are compared.
+#[tactic(auto, unfolding(term_spec::specs::Text::lower))]
 fn lowered(b: u8) -> usize
     ensures { result ≡ lower b }
 {
-    if b < b'A' {
-        return small(b);
-    }
-    if b'Z' < b {
-        return small(b);
-    }
-    small(b) + 32
+    usize::from(b.to_ascii_lowercase())
 }
 
 // What a digit counts for: nothing for the digit 0, so that leading zeros change no digest.
 fn digit_of(b: u8) -> usize
     ensures { result ≡ digit b }
 {
-    if b <= b'0' {
-        return 0;
-    }
-    small(b) - 48
+    usize::from(b.saturating_sub(b'0'))
 }
 
 // What a byte of a number or of an identifier counts for.
 fn counted(digits: bool, b: u8) -> usize
     ensures { result ≡ counts digits b }
 {
-    if digits {
-        return digit_of(b);
-    }
-    lowered(b)
+    if digits { digit_of(b) } else { lowered(b) }
 }
 
 // The digest of a text: digits, or the bytes of an identifier, with ASCII case ignored.
@@ -90,18 +74,12 @@ pub const STRIDE: usize = 32;
 
 pub const MARKS: usize = words::LIMIT / STRIDE + 1;
 
-fn wide(x: u16) -> usize
-    ensures { result ≡ x }
-{
-    x as usize
-}
-
 // Number i.
 pub fn number(numbers: &[u16], i: usize) -> usize
     requires { i < length numbers.now }
     ensures { result ≡ get_or numbers.now i 0 }
 {
-    wide(numbers[i])
+    usize::from(numbers[i])
 }
 
 // The digest of the first i numbers.
@@ -109,12 +87,10 @@ fn digest_front(numbers: &[u16], marks: &[u32], base: usize, i: usize) -> usize
     requires { (base < prime) × (i ≤ length numbers.now) × Marked base numbers.now marks.now i }
     ensures { result ≡ digest base (take i numbers.now) }
 {
-    let from = i / STRIDE;
-    let mut h = words::word(marks, from);
-    let mut j = from * STRIDE;
-    while j < i {
+    let mark = i / STRIDE;
+    let mut h = words::word(marks, mark);
+    for j in mark * STRIDE..i {
         h = mix(base, h, number(numbers, j));
-        j += 1;
     }
     h
 }

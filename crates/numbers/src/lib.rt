@@ -6,12 +6,13 @@
 
 pub mod digests;
 
-ghost use Rattle.std.specs.Prelude.{◌≡◌, List, true, ℕ, ◌+◌, ◌*◌, ◌/◌, ◌<◌, ◌≤◌, eqb, length, get_or, set, drop};
+ghost use Rattle.std.specs.Prelude.{◌≡◌, List, true, ℕ, ◌+◌, ◌*◌, ◌/◌, ◌<◌, ◌≤◌, Option, None, IfSome, is_none, length, get_or, set, drop, replicate};
 ghost use Rattle.term_spec.specs.Term.{limit, bracket_kind};
 ghost use Rattle.value.specs.Equal.{TermStore, equal_at, spec_equal_runs};
 ghost use Rattle.words.specs.Records.{as_term};
 ghost use Rattle.numbers.specs.Digest.{prime, stride, Marked};
-ghost use Rattle.numbers.specs.Numbers.{Numbers, Same, Agree, Readable, key_of, symbol_key, term_key, Tables, Searched, Placed, largest_cost};
+ghost use Rattle.numbers.specs.Buckets.{buckets, entry};
+ghost use Rattle.numbers.specs.Numbers.{Numbers, Same, Agree, Readable, key_of, symbol_key, term_key, Tables, Searched, Placed};
 
 use words::{Run, Term};
 
@@ -21,15 +22,50 @@ use words::{Run, Term};
 pub const BUCKETS: usize = 8192;
 
 // The places of a bucket are a chain. `heads` has for each bucket the place entered last, plus one, and `earlier` for each place the one entered
-// before it; 0 where there is none. Place k becomes the last of bucket b.
-pub fn enter(heads: &mut [u32], earlier: &mut [u16], b: usize, k: usize)
-    requires room { (b < length heads.old) × (k < length earlier.old) × (k < limit) }
-    requires low { get_or heads.old b 0 ≤ k }
-    ensures { (heads.new ≡ set heads.old b (k + 1))
-        × (earlier.new ≡ set earlier.old k (get_or heads.old b 0)) }
-{
-    earlier[k] = heads[b] as u16;
-    heads[b] = (k + 1) as u32;
+// before it; 0 where there is none. It is large: it is made once, and lent.
+#[derive(Drop)]
+pub struct Chains {
+    heads: [u32; BUCKETS],
+    earlier: [u16; words::LIMIT],
+}
+
+impl Chains {
+    // No place is entered.
+    pub fn new() -> Self
+        ensures { (result.heads ≡ replicate buckets 0) × (result.earlier ≡ replicate limit 0) }
+    {
+        Chains {
+            heads: [0; BUCKETS],
+            earlier: [0; words::LIMIT],
+        }
+    }
+
+    // The place of bucket b that was entered last.
+    pub fn last(&self, b: usize) -> Option<usize>
+        requires { b < buckets }
+        ensures { entry result ≡ get_or self.now.heads b 0 }
+    {
+        words::word(&self.heads, b).checked_sub(1)
+    }
+
+    // The place that was entered before place c in its bucket.
+    pub fn before(&self, c: usize) -> Option<usize>
+        requires { c < limit }
+        ensures { entry result ≡ get_or self.now.earlier c 0 }
+    {
+        digests::number(&self.earlier, c).checked_sub(1)
+    }
+
+    // Place k becomes the last of bucket b.
+    pub fn enter(&mut self, b: usize, k: usize)
+        requires room { (b < buckets) × (k < limit) }
+        requires low { get_or self.old.heads b 0 ≤ k }
+        ensures { (self.new.heads ≡ set self.old.heads b (k + 1))
+            × (self.new.earlier ≡ set self.old.earlier k (get_or self.old.heads b 0)) }
+    {
+        self.earlier[k] = self.heads[b] as u16;
+        self.heads[b] = (k + 1) as u32;
+    }
 }
 
 // ---- keys ----
@@ -90,20 +126,12 @@ fn bucket_of(names: &[u8], numbers: &[u16], marks: &[u32], base: usize, t: Term)
 // How many numbers are compared at a time.
 const BLOCK: usize = 64;
 
-// Whether the n numbers from s on are those from p on. All are read, whatever is found: so the compiler compares several at once.
+// Whether the n numbers from s on are those from p on.
 fn all_same(numbers: &[u16], s: usize, p: usize, n: usize) -> bool
     requires { (s + n ≤ length numbers.now) × (p + n ≤ length numbers.now) }
     ensures { result ≡ true → Same numbers.now s p n }
 {
-    let mut same = true;
-    let mut i = 0;
-    while i < n {
-        if numbers[s + i] != numbers[p + i] {
-            same = false;
-        }
-        i += 1;
-    }
-    same
+    numbers[s..s + n] == numbers[p..p + n]
 }
 
 // How many of the n numbers from s on are those from p on, the first `from` of them being so.
@@ -112,12 +140,10 @@ fn agree_from(numbers: &[u16], s: usize, p: usize, n: usize, from: usize) -> usi
     requires begun { (from ≤ n) × Same numbers.now s p from }
     ensures { Agree numbers.now s p n result }
 {
-    let mut k = from;
-    while k < n {
+    for k in from..n {
         if numbers[s + k] != numbers[p + k] {
             return k;
         }
-        k += 1;
     }
     n
 }
@@ -127,39 +153,39 @@ pub fn agree(numbers: &[u16], s: usize, p: usize, n: usize) -> usize
     requires { (s + n ≤ length numbers.now) × (p + n ≤ length numbers.now) }
     ensures { Agree numbers.now s p n result }
 {
-    let mut k = 0;
-    while k + BLOCK <= n {
+    let blocks = n / BLOCK;
+    for block in 0..blocks {
+        let k = block * BLOCK;
         if !all_same(numbers, s + k, p + k, BLOCK) {
             return agree_from(numbers, s, p, n, k);
         }
-        k += BLOCK;
     }
-    agree_from(numbers, s, p, n, k)
+    agree_from(numbers, s, p, n, blocks * BLOCK)
 }
 
 // So many numbers read before two runs differ cost as much as a look at one more place. Windows of a text can have long beginnings in common at any base,
 // so numbering anew would not help there.
 const READ: usize = 1024;
 
-// 0 if two runs are equal, by the numbers of their terms; otherwise what it took to tell, at least 1.
-fn runs_apart(numbers: &[u16], first: Run, second: Run) -> usize
+// What it took to tell two runs apart, by the numbers of their terms; none if they are equal.
+fn runs_apart(numbers: &[u16], first: Run, second: Run) -> Option<usize>
     requires { (first.start + first.len ≤ length numbers.now) × (second.start + second.len ≤ length numbers.now) }
-    ensures { (result ≤ 1 + first.len)
+    ensures { (IfSome result (λ cost. cost ≤ 1 + first.len))
         × ((names w : List ℕ) (used k : ℕ) → Numbers names w used k numbers.now
         → first.start + first.len ≤ k → second.start + second.len ≤ k → k ≤ used
-        → eqb result 0 ≡ spec_equal_runs names w used first.start first.len second.start second.len) }
+        → is_none result ≡ spec_equal_runs names w used first.start first.len second.start second.len) }
 {
     if first.len != second.len {
-        return 1;
+        return Some(1);
     }
     if first.start == second.start {
-        return 0;
+        return None;
     }
     let same = agree(numbers, first.start, second.start, first.len);
     if same == first.len {
-        return 0;
+        return None;
     }
-    1 + same / READ
+    Some(1 + same / READ)
 }
 
 // Whether two runs are equal, by the numbers of their terms.
@@ -169,23 +195,23 @@ pub fn equal_numbered(numbers: &[u16], first: Run, second: Run) -> bool
         → first.start + first.len ≤ k → second.start + second.len ≤ k → k ≤ used
         → result ≡ spec_equal_runs names w used first.start first.len second.start second.len }
 {
-    runs_apart(numbers, first, second) == 0
+    runs_apart(numbers, first, second).is_none()
 }
 
-// 0 if terms c and k are equal, the terms below them having their numbers; otherwise what it took to tell.
-fn apart_above(names: &[u8], terms: &[u32], numbers: &[u16], c: usize, k: usize) -> usize
+// What it took to tell terms c and k apart, the terms below them having their numbers; none if they are equal.
+fn apart_above(names: &[u8], terms: &[u32], numbers: &[u16], c: usize, k: usize) -> Option<usize>
     requires { (used : ℕ) × (TermStore names.now terms.now used × (c < k) × (k < used) × (used ≤ limit)
         × Numbers names.now terms.now used k numbers.now) }
     ensures { let text = names.now in
         let store = terms.now in
-        (result ≤ limit)
+        (IfSome result (λ cost. cost ≤ limit))
         × ((used : ℕ) → TermStore text store used → c < k → k < used → Numbers text store used k numbers.now
-        → eqb result 0 ≡ equal_at text store used c k) }
+        → is_none result ≡ equal_at text store used c k) }
 {
     let t = words::get::<Term>(terms, c);
     let u = words::get::<Term>(terms, k);
     if t.kind != u.kind {
-        return 1;
+        return Some(1);
     }
     if t.kind == words::BRACKET {
         let first = Run {
@@ -199,48 +225,56 @@ fn apart_above(names: &[u8], terms: &[u32], numbers: &[u16], c: usize, k: usize)
         return runs_apart(numbers, first, second);
     }
     if value::equal_symbols(names, t, u) {
-        return 0;
+        return None;
     }
-    1
+    Some(1)
 }
 
 // ---- numbering ----
 
-// Where an equal term was found: its place plus one, 0 if there is none; and what looking at others took.
+// The place where an equal term was found, if there is one, and what looking at others took.
 #[derive(Clone, Copy)]
 struct Found {
-    at: usize,
+    place: Option<usize>,
     cost: usize,
 }
 
-// A term that is equal to term k, along a chain from the place `from` on.
+// A term that is equal to term k, which belongs to bucket b.
 fn find_equal(
     names: &[u8],
     terms: &[u32],
     numbers: &[u16],
-    earlier: &[u16],
+    chains: &Chains,
+    b: usize,
     k: usize,
-    from: usize,
 ) -> Found
-    requires { (used base : ℕ) × (heads : List ℕ) × Searched base names.now terms.now used numbers.now heads earlier.now k from }
+    requires { (used base : ℕ) × ((b < buckets)
+        × Searched base names.now terms.now used numbers.now chains.now.heads chains.now.earlier k (get_or chains.now.heads b 0)) }
     ensures { let text = names.now in
         let store = terms.now in
         let known = numbers.now in
-        (result.cost ≤ from * limit)
-        × ((used base : ℕ) (heads : List ℕ) → Searched base text store used known heads earlier.now k from
-        → Placed text store used known k result.at) }
+        let heads = chains.now.heads in
+        (result.cost ≤ k * limit)
+        × ((used base : ℕ) → Searched base text store used known heads chains.now.earlier k (get_or heads b 0)
+        → Placed text store used known k (entry result.place)) }
 {
-    let mut at = from;
     let mut cost = 0;
-    while at != 0 {
-        let took = apart_above(names, terms, numbers, at - 1, k);
-        if took == 0 {
-            return Found { at, cost };
+    let mut at = chains.last(b);
+    while let Some(c) = at {
+        match apart_above(names, terms, numbers, c, k) {
+            None => {
+                return Found {
+                    place: Some(c),
+                    cost,
+                };
+            }
+            Some(took) => {
+                cost += took;
+            }
         }
-        cost += took;
-        at = digests::number(earlier, at - 1);
+        at = chains.before(c);
     }
-    Found { at: 0, cost }
+    Found { place: None, cost }
 }
 
 // A term's number, and what looking for it took in vain.
@@ -256,41 +290,42 @@ fn number_of(
     terms: &[u32],
     numbers: &[u16],
     marks: &[u32],
-    heads: &mut [u32],
-    earlier: &mut [u16],
+    chains: &mut Chains,
     base: usize,
     k: usize,
 ) -> Numbered
     requires marked { (base < prime) × Marked base numbers.now marks.now k }
-    requires tables { (used : ℕ) × ((k < used) × Tables base names.now terms.now used k numbers.now heads.old earlier.old) }
+    requires tables { (used : ℕ) × ((k < used) × Tables base names.now terms.now used k numbers.now chains.old.heads chains.old.earlier) }
     ensures { let tables = Tables base names.now terms.now in
         let before = numbers.now in
         (result.number ≤ k)
         × (result.cost ≤ limit * limit)
-        × ((used : ℕ) → k < used → tables used k before heads.old earlier.old
-        → tables used (k + 1) (set before k result.number) heads.new earlier.new) }
+        × ((used : ℕ) → k < used → tables used k before chains.old.heads chains.old.earlier
+        → tables used (k + 1) (set before k result.number) chains.new.heads chains.new.earlier) }
 {
     let t = words::get::<Term>(terms, k);
     let b = bucket_of(names, numbers, marks, base, t);
-    let found = find_equal(names, terms, numbers, earlier, k, words::word(heads, b));
-    if found.at != 0 {
-        return Numbered {
-            number: found.at - 1,
+    let found = find_equal(names, terms, numbers, chains, b, k);
+    match found.place {
+        Some(c) => Numbered {
+            number: c,
             cost: found.cost,
-        };
-    }
-    enter(heads, earlier, b, k);
-    Numbered {
-        number: k,
-        cost: found.cost,
+        },
+        None => {
+            chains.enter(b, k);
+            Numbered {
+                number: k,
+                cost: found.cost,
+            }
+        }
     }
 }
 
-// How terms are numbered: by digests at this base, and up to this cost of looking in vain.
+// How terms are numbered: by digests at this base, and up to this cost of looking in vain, or at any cost.
 #[derive(Clone, Copy)]
 struct Way {
     base: usize,
-    most: usize,
+    most: Option<usize>,
 }
 
 // Every used term gets its number, with tables that are lent empty. The answer is whether all have theirs: it ends before where the cost is too much.
@@ -301,31 +336,30 @@ fn number_with(
     way: Way,
     numbers: &mut [u16],
     marks: &mut [u32],
-    heads: &mut [u32],
-    earlier: &mut [u16],
+    chains: &mut Chains,
 ) -> bool
     requires store { TermStore names.now terms.now used × (used ≤ limit) × (used ≤ length numbers.old) × (way.base < prime) }
     requires marks { (limit / stride < length marks.old) × Marked way.base numbers.old marks.old 0 }
-    requires tables { Tables way.base names.now terms.now used 0 numbers.old heads.old earlier.old }
+    requires tables { Tables way.base names.now terms.now used 0 numbers.old chains.old.heads chains.old.earlier }
     ensures { (result ≡ true → Numbers names.now terms.now used used numbers.new)
-        × (largest_cost ≤ way.most → result ≡ true)
+        × (way.most ≡ None → result ≡ true)
         × (drop used numbers.new ≡ drop used numbers.old)
         × (length numbers.new ≡ length numbers.old) }
 {
     let mut sum = 0;
     let mut cost = 0;
-    let mut k = 0;
-    while k < used {
-        let got = number_of(names, terms, numbers, marks, heads, earlier, way.base, k);
+    for k in 0..used {
+        let got = number_of(names, terms, numbers, marks, chains, way.base, k);
         numbers[k] = got.number as u16;
         sum = digests::mix(way.base, sum, got.number);
         cost += got.cost;
-        k += 1;
-        if way.most < cost {
-            return false;
+        if let Some(most) = way.most {
+            if most < cost {
+                return false;
+            }
         }
-        if k % digests::STRIDE == 0 {
-            words::set_word(marks, k / digests::STRIDE, sum);
+        if (k + 1) % digests::STRIDE == 0 {
+            words::set_word(marks, (k + 1) / digests::STRIDE, sum);
         }
     }
     true
@@ -335,23 +369,13 @@ fn number_with(
 fn number_within(names: &[u8], terms: &[u32], used: usize, way: Way, numbers: &mut [u16]) -> bool
     requires { TermStore names.now terms.now used × (used ≤ limit) × (used ≤ length numbers.old) × (way.base < prime) }
     ensures { (result ≡ true → Numbers names.now terms.now used used numbers.new)
-        × (largest_cost ≤ way.most → result ≡ true)
+        × (way.most ≡ None → result ≡ true)
         × (drop used numbers.new ≡ drop used numbers.old)
         × (length numbers.new ≡ length numbers.old) }
 {
     let mut marks = [0u32; digests::MARKS];
-    let mut heads = [0u32; BUCKETS];
-    let mut earlier = [0u16; words::LIMIT];
-    number_with(
-        names,
-        terms,
-        used,
-        way,
-        numbers,
-        &mut marks,
-        &mut heads,
-        &mut earlier,
-    )
+    let mut chains = Chains::new();
+    number_with(names, terms, used, way, numbers, &mut marks, &mut chains)
 }
 
 // How many bases are tried before any cost is allowed. A store can be made slow for one base and for some more: an unknown has 98 bits, and each base at
@@ -361,19 +385,6 @@ const TRIES: usize = 8;
 // The cost up to which a base is kept: eight times that of terms that all differ and are spread over the buckets.
 const MOST: usize = 32 * words::LIMIT;
 
-// No cost is larger: a term is compared with at most all others.
-const LARGEST_COST: usize = words::LIMIT * words::LIMIT * words::LIMIT;
-
-// The cost that is allowed, so many tries being left.
-fn most_of(left: usize) -> usize
-    ensures { left ≡ 0 → result ≡ largest_cost }
-{
-    if left == 0 {
-        return LARGEST_COST;
-    }
-    MOST
-}
-
 // Every used term gets its number.
 pub fn number_terms(names: &[u8], terms: &[u32], used: usize, numbers: &mut [u16])
     requires { TermStore names.now terms.now used × (used ≤ limit) × (used ≤ length numbers.old) }
@@ -382,14 +393,15 @@ pub fn number_terms(names: &[u8], terms: &[u32], used: usize, numbers: &mut [u16
         × (length numbers.new ≡ length numbers.old) }
 {
     let mut base = digests::BASE;
-    let mut left = TRIES;
-    let mut done = false;
-    while !done {
-        let most = most_of(left);
-        done = number_within(names, terms, used, Way { base, most }, numbers);
-        if left != 0 {
-            left -= 1;
+    for _ in 0..TRIES {
+        let way = Way {
+            base,
+            most: Some(MOST),
+        };
+        if number_within(names, terms, used, way, numbers) {
+            return;
         }
         base = base * digests::BASE % digests::PRIME;
     }
+    number_within(names, terms, used, Way { base, most: None }, numbers);
 }

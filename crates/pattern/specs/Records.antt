@@ -1,10 +1,11 @@
 -- The structs of this crate as the specification's records, names as the code compares and finds them, and the numbers that the code gives
 -- to a pattern's records.
-use Rattle.std.specs.Prelude.{List, [], ◌∷◌, ◌++◌, map, Bool, ◌&&◌, leb, length, get_or, ℕ, ◌+◌, ◌/◌, ◌<◌, ◌≤◌}
+use Rattle.std.specs.Prelude.{◌≡◌, Option, IfSome, unwrap_or, List, [], ◌∷◌, ◌++◌, map, Bool, ◌&&◌, leb, length, get_or, ℕ, ◌+◌, ◌/◌, ◌<◌, ◌≤◌}
 use Rattle.term_spec.specs.Words.{Lies, record_at, records}
 use Rattle.term_spec.specs.Value.{is_yes}
 use Rattle.match_spec.specs.Element.{Element, lit, opening, closing, call, one, many}
 use Rattle.match_spec.specs.Pattern.{Item as SpecItem, item_layout, symbol_variable_kind, expression_variable_kind, binding_layout, Name, name_at, name?, binding_names, find, add}
+use Rattle.pattern.specs.declared.Name.{Name as CodeName}
 
 -- The records of a slice, as the code counts them.
 abbrev pub items_in : List ℕ → ℕ
@@ -24,6 +25,14 @@ same_name x y = is_yes (name? x y)
 -- The name of a variable's record.
 abbrev pub item_name : List ℕ → SpecItem → Name
 item_name names t = name_at names t.kind t.a t.b
+
+-- The name that the code's is.
+abbrev pub as_name : List ℕ → CodeName → Name
+as_name names x = name_at names x.kind x.offset x.size
+
+-- What the code finds of a name in a table: the place where it is first, or that it is not there; `find` has the table's length then.
+abbrev pub FoundAmong : Name → List Name → ℕ → Option ℕ → Type 0
+FoundAmong x t n place = (unwrap_or place n ≡ find x t) × IfSome place (λ i. i < n)
 
 -- The names of the records that have these numbers.
 abbrev pub first_names : List ℕ → List ℕ → List ℕ → List Name

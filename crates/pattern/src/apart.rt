@@ -1,12 +1,14 @@
 // Whether no two of many bindings have one name. A name is looked for among those of its bucket, which its digest gives. Names can be chosen so that
 // many are in one bucket; what looking in vain takes is counted, and where it is too much, all are looked up anew with another digest.
-ghost use Rattle.std.specs.Prelude.{◌≡◌, ℕ, ◌+◌, ◌<◌, ◌≤◌, length};
+ghost use Rattle.std.specs.Prelude.{◌≡◌, ℕ, ◌+◌, ◌<◌, ◌≤◌, IfSome, is_some, length};
 ghost use Rattle.term_spec.specs.Term.{limit};
 ghost use Rattle.numbers.specs.Digest.{prime};
 ghost use Rattle.pattern.specs.Records.{bindings_in, BindingTexts};
 ghost use Rattle.pattern.specs.Apart.{Told, Tells, spec_bucket_of, bucket_in, NameTables, NameBefore, NameNew, Apart, Repeats};
 
+use crate::Name;
 use items::Binding;
+use numbers::Chains;
 
 // ---- looking up one name ----
 
@@ -19,41 +21,33 @@ fn bucket_of(names: &[u8], base: usize, o: usize, n: usize) -> usize
     numbers::digests::digest_text(&names[o..o + n], base, false) % numbers::BUCKETS
 }
 
-// Whether a name was found, and how many others were looked at in vain.
-#[derive(Clone, Copy)]
-struct Looked {
-    found: bool,
-    cost: usize,
-}
-
-// Whether binding k has the name of one that is entered, which stands in the chain of k's bucket.
-fn name_entered(
+// What it took to tell binding k's name from all those that are entered in the chain of its bucket: how many these are; none if it is one of them.
+fn name_apart(
     names: &[u8],
     bindings: &[u32],
-    heads: &[u32],
-    earlier: &[u16],
+    chains: &Chains,
     bucket: usize,
     k: usize,
-) -> Looked
+) -> Option<usize>
     requires here { k < bindings_in bindings.now }
     requires tables { (base : ℕ) × (bucket ≡ bucket_in base names.now bindings.now k)
-        × NameTables base names.now bindings.now k heads.now earlier.now }
+        × NameTables base names.now bindings.now k chains.now.heads chains.now.earlier }
     ensures { let text = names.now in
         let words = bindings.now in
-        (result.cost ≤ limit) × Told (NameBefore text words k) (NameNew text words k) result.found }
+        (IfSome result (λ cost. cost ≤ limit)) × Told (NameNew text words k) (NameBefore text words k) (is_some result) }
 {
     let b = words::get::<Binding>(bindings, k);
     let mut cost = 0;
-    let mut at = words::word(heads, bucket);
-    while at != 0 {
-        let c = words::get::<Binding>(bindings, at - 1);
-        if crate::same_name(names, b.kind, b.offset, b.size, c.kind, c.offset, c.size) {
-            return Looked { found: true, cost };
+    let mut at = chains.last(bucket);
+    while let Some(i) = at {
+        let c = words::get::<Binding>(bindings, i);
+        if crate::same_name(names, Name::of_binding(b), Name::of_binding(c)) {
+            return None;
         }
         cost += 1;
-        at = numbers::digests::number(earlier, at - 1);
+        at = chains.before(i);
     }
-    Looked { found: false, cost }
+    Some(cost)
 }
 
 // ---- looking up all of them ----
@@ -80,38 +74,29 @@ const MOST: usize = 8 * words::LIMIT;
 const MOST_EACH: usize = 16;
 
 // Whether no binding has the name of one before it that is among the first 65,536, with tables that are lent empty. Those are entered.
-fn first_apart_with(
-    names: &[u8],
-    bindings: &[u32],
-    way: Way,
-    heads: &mut [u32],
-    earlier: &mut [u16],
-) -> Outcome
-    requires { (way.base < prime) × NameTables way.base names.now bindings.now 0 heads.old earlier.old }
+fn first_apart_with(names: &[u8], bindings: &[u32], way: Way, chains: &mut Chains) -> Outcome
+    requires { (way.base < prime) × NameTables way.base names.now bindings.now 0 chains.old.heads chains.old.earlier }
     ensures { let text = names.now in
         let words = bindings.now in
         Tells (Apart text words limit (bindings_in words)) (Repeats text words) way.free result }
 {
     let n = bindings.len() / items::BINDING_WIDTH;
     let mut cost = 0;
-    let mut k = 0;
-    while k < n {
+    for k in 0..n {
         let b = words::get::<Binding>(bindings, k);
         let bucket = bucket_of(names, way.base, b.offset, b.size);
-        let looked = name_entered(names, bindings, heads, earlier, bucket, k);
-        if looked.found {
+        let Some(took) = name_apart(names, bindings, chains, bucket, k) else {
             return Outcome::OneRepeats;
-        }
+        };
         if !way.free {
-            cost += looked.cost;
+            cost += took;
             if MOST + MOST_EACH * k < cost {
                 return Outcome::GivenUp;
             }
         }
         if k < words::LIMIT {
-            numbers::enter(heads, earlier, bucket, k);
+            chains.enter(bucket, k);
         }
-        k += 1;
     }
     Outcome::NoneRepeats
 }
@@ -125,9 +110,8 @@ fn first_apart(names: &[u8], bindings: &[u32], way: Way) -> Outcome
         let words = bindings.now in
         Tells (Apart text words limit (bindings_in words)) (Repeats text words) way.free result }
 {
-    let mut heads = [0u32; numbers::BUCKETS];
-    let mut earlier = [0u16; words::LIMIT];
-    first_apart_with(names, bindings, way, &mut heads, &mut earlier)
+    let mut chains = Chains::new();
+    first_apart_with(names, bindings, way, &mut chains)
 }
 
 // How many bases are tried before any cost is allowed. Names can be chosen for some bases more, but each takes 13 bits of every name: for five of them a
@@ -142,10 +126,8 @@ fn first_told(names: &[u8], bindings: &[u32]) -> bool
         Told (Apart text words limit (bindings_in words)) (Repeats text words) result }
 {
     let mut base = numbers::digests::BASE;
-    let mut left = TRIES;
-    loop {
-        let free = left == 0;
-        match first_apart(names, bindings, Way { base, free }) {
+    for _ in 0..TRIES {
+        match first_apart(names, bindings, Way { base, free: false }) {
             Outcome::NoneRepeats => {
                 return true;
             }
@@ -153,11 +135,14 @@ fn first_told(names: &[u8], bindings: &[u32]) -> bool
                 return false;
             }
             Outcome::GivenUp => {
-                left -= 1;
                 base = base * numbers::digests::BASE % numbers::digests::PRIME;
             }
         }
     }
+    matches!(
+        first_apart(names, bindings, Way { base, free: true }),
+        Outcome::NoneRepeats
+    )
 }
 
 // Whether no two bindings have one name. The tables have room for 65,536 of them, so each pass enters as many, and looks for all that follow.
@@ -168,13 +153,12 @@ pub fn names_apart(names: &[u8], bindings: &[u32]) -> bool
         Told (Apart text words (bindings_in words) (bindings_in words)) (Repeats text words) result }
 {
     let n = bindings.len() / items::BINDING_WIDTH;
-    let mut from = 0;
-    while from < n {
+    for pass in 0..n.div_ceil(words::LIMIT) {
+        let from = pass * words::LIMIT;
         let start = from * items::BINDING_WIDTH;
         if !first_told(names, &bindings[start..]) {
             return false;
         }
-        from += words::LIMIT;
     }
     true
 }

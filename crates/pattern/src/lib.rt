@@ -10,7 +10,7 @@ ghost use Rattle.term_spec.specs.Term.{runs_rule};
 ghost use Rattle.match_spec.specs.Pattern.{item_layout, call_kind, pattern_limit, name_limit, elements, item_rule_k, pattern_rule};
 ghost use Rattle.match_spec.specs.Pattern.{binding_layout, bound_run, binding_names, names_after, name_at, find, binding_rule, bindings_rule};
 ghost use Rattle.items.specs.Records.{as_item, as_binding};
-ghost use Rattle.pattern.specs.Records.{bindings_in, numbers_of, variable, same_name, item_name, first_names, table_at, BindingTexts, ItemTexts};
+ghost use Rattle.pattern.specs.Records.{bindings_in, numbers_of, variable, same_name, item_name, as_name, FoundAmong, first_names, table_at, BindingTexts, ItemTexts};
 ghost use Rattle.pattern.specs.Apart.{Told, EachRight, OneWrong};
 
 use items::{Binding, Item};
@@ -114,16 +114,11 @@ pub fn bindings_inside(bindings: &[u32], terms: usize) -> bool
     ensures { result ≡ runs_rule terms (map bound_run (records binding_layout bindings.now)) }
 {
     let n = bindings.len() / items::BINDING_WIDTH;
-    let mut i = 0;
-    while i < n {
+    for i in 0..n {
         let b = words::get::<Binding>(bindings, i);
-        if terms < b.len {
+        if terms < b.len || terms - b.len < b.start {
             return false;
         }
-        if terms - b.len < b.start {
-            return false;
-        }
-        i += 1;
     }
     true
 }
@@ -132,54 +127,69 @@ pub fn bindings_inside(bindings: &[u32], terms: usize) -> bool
 pub fn is_variable(kind: usize) -> bool
     ensures { result ≡ variable kind }
 {
-    if kind < items::S_VARIABLE {
-        return false;
-    }
-    kind <= items::E_VARIABLE
+    matches!(kind, items::S_VARIABLE..=items::E_VARIABLE)
 }
 
-// Whether two names are one, each given by its kind and its text's offset and length.
-#[tactic(auto, using(term_spec::proofs::ListLaws::part_slice, crate::specs::NameLaws::kinds_apart, crate::specs::NameLaws::same_kinds))]
-fn same_name(
-    names: &[u8],
+// A name: its kind, and where its text begins in the names and how long it is.
+#[derive(Clone, Copy)]
+struct Name {
     kind: usize,
-    o: usize,
-    n: usize,
-    other: usize,
-    p: usize,
-    m: usize,
-) -> bool
-    requires { (o + n ≤ length names.now) × (p + m ≤ length names.now) }
-    ensures { result ≡ same_name (name_at names.now kind o n) (name_at names.now other p m) }
-{
-    if kind != other {
-        return false;
-    }
-    text::same_identifiers(&names[o..o + n], &names[p..p + m])
+    offset: usize,
+    size: usize,
 }
 
-// The place of a name among the first `count` bindings, `count` if it is not there.
-fn find_binding(
-    names: &[u8],
-    bindings: &[u32],
-    count: usize,
-    kind: usize,
-    o: usize,
-    n: usize,
-) -> usize
-    requires { (Lies binding_layout bindings.now count) × (o + n ≤ length names.now) × BindingTexts names.now bindings.now count }
-    ensures { let text = names.now in
-        result ≡ find (name_at text kind o n) (binding_names text (decode binding_layout count bindings.now)) }
-{
-    let mut i = 0;
-    while i < count {
-        let b = words::get::<Binding>(bindings, i);
-        if same_name(names, kind, o, n, b.kind, b.offset, b.size) {
-            return i;
+impl Name {
+    // The name of a binding.
+    fn of_binding(b: Binding) -> Self
+        ensures { result ≡ record { kind = b.kind; offset = b.offset; size = b.size } }
+    {
+        Name {
+            kind: b.kind,
+            offset: b.offset,
+            size: b.size,
         }
-        i += 1;
     }
-    count
+
+    // The name of a variable in a pattern.
+    fn of_item(t: Item) -> Self
+        ensures { result ≡ record { kind = t.kind; offset = t.a; size = t.b } }
+    {
+        Name {
+            kind: t.kind,
+            offset: t.a,
+            size: t.b,
+        }
+    }
+}
+
+// Whether two names are one.
+#[tactic(auto, using(term_spec::proofs::ListLaws::part_slice, crate::specs::NameLaws::kinds_apart, crate::specs::NameLaws::same_kinds))]
+fn same_name(names: &[u8], x: Name, y: Name) -> bool
+    requires { (x.offset + x.size ≤ length names.now) × (y.offset + y.size ≤ length names.now) }
+    ensures { result ≡ same_name (as_name names.now x) (as_name names.now y) }
+{
+    if x.kind != y.kind {
+        return false;
+    }
+    text::same_identifiers(
+        &names[x.offset..x.offset + x.size],
+        &names[y.offset..y.offset + y.size],
+    )
+}
+
+// The place of a name among the first `count` bindings, if it is there.
+fn find_binding(names: &[u8], bindings: &[u32], count: usize, x: Name) -> Option<usize>
+    requires { (Lies binding_layout bindings.now count) × (x.offset + x.size ≤ length names.now) × BindingTexts names.now bindings.now count }
+    ensures { let text = names.now in
+        FoundAmong (as_name text x) (binding_names text (decode binding_layout count bindings.now)) count result }
+{
+    for i in 0..count {
+        let b = words::get::<Binding>(bindings, i);
+        if same_name(names, x, Name::of_binding(b)) {
+            return Some(i);
+        }
+    }
+    None
 }
 
 // The rule of a binding by itself.
@@ -197,16 +207,15 @@ fn few_bindings_ok(names: &[u8], bindings: &[u32]) -> bool
     ensures { result ≡ bindings_rule names.now (records binding_layout bindings.now) [] }
 {
     let n = bindings.len() / items::BINDING_WIDTH;
-    let mut i = 0;
-    while i < n {
+    for i in 0..n {
         let b = words::get::<Binding>(bindings, i);
         if !binding_ok(names, b) {
             return false;
         }
-        if find_binding(names, bindings, i, b.kind, b.offset, b.size) < i {
+        let x = Name::of_binding(b);
+        if find_binding(names, bindings, i, x).is_some() {
             return false;
         }
-        i += 1;
     }
     true
 }
@@ -218,13 +227,11 @@ fn each_binding_ok(names: &[u8], bindings: &[u32]) -> bool
         Told (EachRight text words (bindings_in words)) (OneWrong text words) result }
 {
     let n = bindings.len() / items::BINDING_WIDTH;
-    let mut i = 0;
-    while i < n {
+    for i in 0..n {
         let b = words::get::<Binding>(bindings, i);
         if !binding_ok(names, b) {
             return false;
         }
-        i += 1;
     }
     true
 }
@@ -244,21 +251,19 @@ pub fn bindings_ok(names: &[u8], bindings: &[u32]) -> bool
 
 // ---- the numbers of names ----
 
-// The place of a name among the records that the first `count` of `firsts` number, `count` if it is not there.
-fn find_first(names: &[u8], pattern: &[u32], firsts: &[u32], count: usize, t: Item) -> usize
+// The place of a variable's name among those of the records that the first `count` of `firsts` number, if it is there.
+fn find_first(names: &[u8], pattern: &[u32], firsts: &[u32], count: usize, t: Item) -> Option<usize>
     requires { (count ≤ length firsts.now) × (t.a + t.b ≤ length names.now) × ItemTexts names.now pattern.now firsts.now count }
     ensures { let text = names.now in
-        result ≡ find (item_name text (as_item t)) (first_names text pattern.now (take count firsts.now)) }
+        FoundAmong (item_name text (as_item t)) (first_names text pattern.now (take count firsts.now)) count result }
 {
-    let mut i = 0;
-    while i < count {
+    for i in 0..count {
         let u = words::get::<Item>(pattern, words::word(firsts, i));
-        if same_name(names, t.kind, t.a, t.b, u.kind, u.a, u.b) {
-            return i;
+        if same_name(names, Name::of_item(t), Name::of_item(u)) {
+            return Some(i);
         }
-        i += 1;
     }
-    count
+    None
 }
 
 // The place of a variable's name among the bindings' names and those of the records that `firsts` number; so many if it is not there.
@@ -278,11 +283,10 @@ fn find_name(
         result ≡ find (item_name text (as_item t)) table }
 {
     let start = bindings.len() / items::BINDING_WIDTH;
-    let at = find_binding(names, bindings, start, t.kind, t.a, t.b);
-    if at < start {
-        return at;
+    match find_binding(names, bindings, start, Name::of_item(t)) {
+        Some(at) => at,
+        None => start + find_first(names, pattern, firsts, new, t).unwrap_or(new),
     }
-    start + find_first(names, pattern, firsts, new, t)
 }
 
 // What stands for more names than there may be.

@@ -1,0 +1,25 @@
+-- A name is found at i, or the rest is left.
+use Rattle.std.proofs.Common.{sym, ◌∙◌}
+use Rattle.pattern.specs.NameLaws.{found, passed, not_found, find-start, binding_next, bindings-length, binding_text}
+use Rattle.pattern.proofs.find_binding.Goals as goal
+
+pub loop-i-init : goal.loop-i-init
+loop-i-init c = find-start _ _
+
+pub same_name-requires : goal.same_name-requires
+same_name-requires c = rw c.of_binding.ensures (c.requires.1, binding_text _ _ _ _ c.requires.2 c.loop-i-test.true c.get-b.ensures)
+
+pub returns-then-same_name : goal.returns-then-same_name
+returns-then-same_name c =
+    let told = rw c.of_binding.ensures at c.same_name.ensures in (
+      found _ _ _ (binding_next _ _ _ _ c.loop-i-test.true c.get-b.ensures) c.loop-i.invariant (sym told ∙ c.if-same_name.true),
+      c.loop-i-test.true,
+    )
+
+pub loop-i-preserved : goal.loop-i-preserved
+loop-i-preserved c =
+    let told = rw c.of_binding.ensures at c.same_name.ensures in
+    passed _ _ _ (binding_next _ _ _ _ c.loop-i-test.true c.get-b.ensures) c.loop-i.invariant (sym told ∙ c.if-same_name.false)
+
+pub returns : goal.returns
+returns c = (not_found _ _ c.loop-i.i (bindings-length _ _ _) c.loop-i-test.false c.loop-i.auto.i-end c.loop-i.invariant, tt)
