@@ -1,8 +1,8 @@
 -- Laws of copying words one by one, within a slice or from one slice to another.
 use Rattle.std.specs.Prelude.{◌≡◌, refl, List, [], ◌∷◌, ◌++◌, length, get_or, set, take, drop, ℕ, suc, ◌+◌, ◌≤◌, ◌<◌}
 use Rattle.std.proofs.Common.{ap, sym, ◌∙◌, length-drop, take-suc, get_or-drop, get_or-set_other, length-take-le, add-one, arith}
-use Rattle.std.proofs.lemmas.List.Edits.{sets}
-use Rattle.std.proofs.Math.Seq.{length-sets}
+use Rattle.std.proofs.lemmas.List.Edits.{sets, sets-eq}
+use Rattle.std.proofs.Math.Seq.{length-sets, paste}
 
 -- i of n words from `from` on have gone to `to` and after it.
 pub record Copied (source before : List ℕ) (from to n : ℕ) (after : List ℕ) (i : ℕ) : Type 0 where
@@ -15,6 +15,13 @@ sets-snoc l i [] a = let z : i ≡ i + 0 = omega arith in ap (λ k. set l k a) z
 sets-snoc l i (v ∷ vs) a =
     let z : suc i + length vs ≡ i + suc (length vs) = omega arith in
     sets-snoc (set l i v) (suc i) vs a ∙ ap (λ k. set (sets (set l i v) (suc i) vs) k a) z
+
+-- What the library copies, as words that are set.
+pub pasted : (l : List ℕ) (to from n k : ℕ) (source : List ℕ) → k ≡ n → from + n ≤ length source → to + n ≤ length l
+    → paste l to (drop from source) k ≡ sets l to (take n (drop from source))
+pasted l to from n k source e h room =
+    let size : length (take n (drop from source)) ≡ n = length-take-le n (drop from source) (rw length-drop (omega arith)) in
+    rw e (sym (sets-eq (take n (drop from source)) l to (omega arith) ∙ rw size refl))
 
 -- words that are set change none below them
 sets_below : (l : List ℕ) (i : ℕ) (vs : List ℕ) (k : ℕ) → k < i → get_or (sets l i vs) k 0 ≡ get_or l k 0

@@ -11,8 +11,8 @@ use Rattle.term_spec.proofs.WordsLaws.{decode-length}
 use Rattle.view_spec.specs.Node.{Node, Field, cons_kind, node_at, meaning, nodes_rule}
 use Rattle.view_spec.proofs.NodeLaws.{ConsAt, ConcatAt, node_at_lem}
 use Rattle.nodes.specs.NodeStore.{nodes_in, NodeStore, Reaches}
-use Rattle.places.specs.Rest.{Rest, rest, waiting, gives, passed, entered}
-use Rattle.places.specs.RestLaws.{none_wait, entered-node, reach_length, cons-at, ready_short, ready_low, ready_concat}
+use Rattle.places.specs.Rest.{Rest, rest, gives, passed, entered}
+use Rattle.places.specs.RestLaws.{entered-node, reach_length, cons-at, ready_short, ready_low, ready_concat}
 use Rattle.places.specs.RestLaws.{Comes, Passed, comes_most, comes_part, comes_run, comes_passed, comes_on, comes_entered}
 use Rattle.places.specs.Places.{part, wanted, seen_unit, entry_of, entry_from, entry_len, noted, Before}
 use Rattle.places.specs.PlacesLaws.{up_length, up_part}
@@ -70,16 +70,16 @@ pub record Reading (terms : ℕ) (ns : List Node) (W : List ℕ) (n : ℕ) (befo
 
 -- Nothing is read yet.
 pub reading_start : {nodes : List ℕ} {terms used node skip n : ℕ} → NodeStore nodes terms used → Reaches nodes used node (skip + n) → {before seen : List ℕ}
-    → n ≤ length before → ((i : ℕ) → get_or seen i 0 ≡ 0) → (stack : List ℕ)
-    → Reading terms (nodes_in nodes used) (wanted terms (nodes_in nodes used) node skip n) n before (rest node skip n (waiting stack 0)) seen before 0
+    → n ≤ length before → ((i : ℕ) → get_or seen i 0 ≡ 0) → {at : Rest} → at ≡ rest node skip n []
+    → Reading terms (nodes_in nodes used) (wanted terms (nodes_in nodes used) node skip n) n before at seen before 0
 unfolding All gives
-reading_start {nodes} {terms} {used} {node} {skip} {n} store reaches {seen = seen} room empty stack =
+reading_start {nodes} {terms} {used} {node} {skip} {n} store reaches {seen = seen} room empty alone =
     let xs = numbers_from 0 terms in
     let ns = nodes_in nodes used in
     let good : T (nodes_rule (length xs) ns) = rw up_length store.good in
     let low : node < length ns = rw decode-length reaches.low in
     let l = reach_length xs ns good node low in
-    rw (none_wait stack) (record {
+    rw alone (record {
       size = part_length (meaning xs ns node) skip n (omega (arith, reaches.fits));
       room = room;
       most = omega arith;

@@ -13,9 +13,32 @@ use Rattle.nodes.specs.NodeStore.{nodes_in, NodeStore, Reaches}
 use Rattle.places.specs.Places.{PartRead, ShowsPart}
 use Rattle.places.specs.PlacesLaws.{up_length, meaning-map}
 use Rattle.places.specs.RestLaws.{reach_length}
-use Rattle.rope.specs.Copies.{terms_at}
+use Rattle.rope.specs.Copies.{terms_at, Kept}
 use Rattle.rope.specs.PartLaws.{part_at}
 use Rattle.rope.specs.CopiedLaws.{terms_in, shown, Task, words_written, write-below, write_between, part-drop, task_good}
+
+-- ---- what is written leaves the words before it, and the slice of the terms what it keeps ----
+
+write_lower : (before : List ℕ) (i b : ℕ) (ts : List Term) {after : List ℕ} → b ≤ i → Lies term_layout before i → after ≡ write term_layout before i ts
+    → take (b * term_layout.width) after ≡ take (b * term_layout.width) before
+write_lower before i b ts {after} h low e =
+    let width = term_layout.width in
+    sym (take-take (b * width) (i * width) after (omega arith)) ∙ ap (λ w. take (b * width) (take (i * width) w)) e
+    ∙ ap (take (b * width)) (write-below before i ts low) ∙ take-take (b * width) (i * width) before (omega arith)
+
+-- The used terms are the same where their words are.
+pub terms_same : (w v : List ℕ) (used : ℕ) → Lies term_layout w used → length w ≡ length v
+    → take (used * term_layout.width) w ≡ take (used * term_layout.width) v → terms_in w used ≡ terms_in v used
+terms_same w v used there l e =
+    sym (decode-take term_layout used w there) ∙ ap (decode term_layout used) e ∙ decode-take term_layout used v (omega (arith, there, l))
+
+-- A term's words among those of the used terms.
+place_same : (w v : List ℕ) (used p : ℕ) → p < used → take (used * term_layout.width) w ≡ take (used * term_layout.width) v
+    → take term_layout.width (drop (p * term_layout.width) w) ≡ take term_layout.width (drop (p * term_layout.width) v)
+place_same w v used p lt e =
+    let width = term_layout.width in
+    sym (part-below w (p * width) width (used * width) (omega arith)) ∙ ap (λ l. take width (drop (p * width) l)) e
+    ∙ part-below v (p * width) width (used * width) (omega arith)
 
 -- ---- the terms at places of a list are copied one by one ----
 
@@ -47,9 +70,9 @@ module _ {store before list : List ℕ} {to k : ℕ} {after : List ℕ} {i : ℕ
   -- one term more, read from words that have it where the store has it
   pub put_next : i < k → (source : List ℕ) (p : ℕ) → p ≡ get_or list i 0 → Lies term_layout store (p + 1)
       → take term_layout.width (drop (p * term_layout.width) source) ≡ take term_layout.width (drop (p * term_layout.width) store)
-      → {final : List ℕ} → final ≡ sets after ((to + i) * term_layout.width) (take term_layout.width (drop (p * term_layout.width) source))
+      → (q : ℕ) → q ≡ to + i → {final : List ℕ} → final ≡ sets after (q * term_layout.width) (take term_layout.width (drop (p * term_layout.width) source))
       → Put store before list to k final (i + 1)
-  put_next lt source p at there same e =
+  put_next lt source p at there same q eq e =
       let P = terms_at store (take i list) in
       let R = record_at term_layout store p ∷ [] in
       let z : to + i ≡ to + length P = omega (arith, put_count) in
@@ -57,6 +80,7 @@ module _ {store before list : List ℕ} {to k : ℕ} {after : List ℕ} {i : ℕ
       record {
         most = omega arith;
         words = e
+            ∙ ap (λ j. sets after (j * term_layout.width) (take term_layout.width (drop (p * term_layout.width) source))) eq
             ∙ ap (sets after ((to + i) * term_layout.width)) (same ∙ term_words_lem store p there)
             ∙ words_written after (to + i) R (omega (arith, put-length))
             ∙ ap₂ (λ w n. write term_layout w n R) so_far.words z
@@ -64,16 +88,18 @@ module _ {store before list : List ℕ} {to k : ℕ} {after : List ℕ} {i : ℕ
             ∙ ap (write term_layout before to) (sym (ap (terms_at store) taken ∙ map-append (record_at term_layout store) (take i list) (p ∷ [])));
       }
 
--- The same within one slice: the term that is read is as it was before.
-pub put_up : {before list : List ℕ} {to k : ℕ} {after : List ℕ} {i : ℕ} → Put before before list to k after i → Lies term_layout before (to + k)
-    → (p : ℕ) → p < to
-    → take term_layout.width (drop (p * term_layout.width) after) ≡ take term_layout.width (drop (p * term_layout.width) before)
-put_up {before} {list} {to} {k} {after} {i} so_far room p lt =
-    let width = term_layout.width in
-    let same : take (to * width) after ≡ take (to * width) before =
-    ap (take (to * width)) so_far.words ∙ write-below before to (terms_at before (take i list)) (omega arith) in
-    sym (part-below after (p * width) width (to * width) (omega arith)) ∙ ap (λ w. take width (drop (p * width) w)) same
-    ∙ part-below before (p * width) width (to * width) (omega arith)
+-- What the slice of the terms keeps.
+pub put_source : (T : List ℕ → List ℕ) (used base : ℕ) → Kept T used base → {before list : List ℕ} {to k : ℕ} {after : List ℕ} {i : ℕ}
+    → Put (T before) before list to k after i → k ≤ length list → Lies term_layout before (to + k) → base ≤ to
+    → (length (T after) ≡ length (T before)) × (take (used * term_layout.width) (T after) ≡ take (used * term_layout.width) (T before))
+put_source T used base kept {before} {list} {to} {after = after} {i = i} so_far few room h =
+    kept after before (put-length so_far few room) (write_lower before to base (terms_at (T before) (take i list)) h (omega arith) so_far.words)
+
+pub put_place : (T : List ℕ → List ℕ) (used base : ℕ) → Kept T used base → {before list : List ℕ} {to k : ℕ} {after : List ℕ} {i : ℕ}
+    → Put (T before) before list to k after i → k ≤ length list → Lies term_layout before (to + k) → base ≤ to → (p : ℕ) → p < used
+    → take term_layout.width (drop (p * term_layout.width) (T after)) ≡ take term_layout.width (drop (p * term_layout.width) (T before))
+put_place T used base kept {before} {after = after} so_far few room h p lt =
+    place_same (T after) (T before) used p lt (put_source T used base kept so_far few room h).1
 
 -- ---- the terms of a node are those at its places ----
 
@@ -82,11 +108,8 @@ used_kept : (before : List ℕ) (used i : ℕ) (ts : List Term) {after : List �
     → after ≡ write term_layout before i ts
     → terms_in after used ≡ terms_in before used
 used_kept before used i ts {after} h low fits e =
-    let width = term_layout.width in
-    let same : take (used * width) after ≡ take (used * width) before =
-    sym (take-take (used * width) (i * width) after (omega arith)) ∙ ap (λ w. take (used * width) (take (i * width) w)) e
-    ∙ ap (take (used * width)) (write-below before i ts low) ∙ take-take (used * width) (i * width) before (omega arith) in
-    sym (decode-take term_layout used after fits) ∙ ap (decode term_layout used) same ∙ decode-take term_layout used before (omega arith)
+    sym (decode-take term_layout used after fits) ∙ ap (decode term_layout used) (write_lower before i used ts h low e)
+    ∙ decode-take term_layout used before (omega arith)
 
 -- The used terms are those at all places.
 decode-places : (w : List ℕ) (s n : ℕ) → decode term_layout n (drop (s * term_layout.width) w) ≡ terms_at w (numbers_from s n)
@@ -212,3 +235,27 @@ module _ {terms : List ℕ} {used : ℕ} {nodes : List ℕ} {nodes-used node len
               (omega (arith, so_far.least, so_far.task.room)) (omega arith) so_far.words
               (e ∙ ap (write term_layout after to) (part-shown so_far.task done k h old list read source same));
         }
+
+-- What the slice of the terms keeps.
+pub filled_source : (T : List ℕ → List ℕ) (used base : ℕ) → Kept T used base → {nodes : List ℕ} {nodes-used node len : ℕ} {before : List ℕ} {from : ℕ}
+    {after : List ℕ} {done : ℕ} → Filled (T before) used nodes nodes-used node len base before from after done
+    → (length (T after) ≡ length (T before)) × (take (used * term_layout.width) (T after) ≡ take (used * term_layout.width) (T before))
+filled_source T used base kept {nodes} {nodes-used} {node} {before = before} {from} {after} {done} so_far =
+    let M = shown (T before) used nodes nodes-used node in
+    kept after before (filled-length so_far)
+    (write_lower before (base + from) base (drop from (take done M)) (omega arith) (omega (arith, so_far.least, so_far.most, so_far.task.room)) so_far.words)
+
+-- What is asked of the words that some of the terms were copied to.
+pub task_kept : (T : List ℕ → List ℕ) (used base : ℕ) → Kept T used base → {nodes : List ℕ} {nodes-used node len : ℕ} {before middle : List ℕ} {done : ℕ}
+    → Task (T before) used nodes nodes-used node len base before → done ≤ len
+    → middle ≡ write term_layout before base (take done (shown (T before) used nodes nodes-used node))
+    → Task (T middle) used nodes nodes-used node len base middle × (terms_in (T middle) used ≡ terms_in (T before) used)
+task_kept T used base kept {nodes} {nodes-used} {node} {before = before} {middle} {done} task h x =
+    let M = shown (T before) used nodes nodes-used node in
+    let l = length-take-le done M (omega (arith, shown_long task)) in
+    let z = ap length x ∙ write-length term_layout term_lays before base (take done M) (omega (arith, task.room)) in
+    let k = kept middle before z (write_lower before base base (take done M) (omega arith) (omega (arith, task.room)) x) in
+    let there : Lies term_layout (T middle) used = omega (arith, task.there, k.0) in (
+      record { there = there; store = task.store; good = task.good; reaches = task.reaches; room = omega (arith, task.room, z) },
+      terms_same (T middle) (T before) used there k.0 k.1,
+    )

@@ -10,8 +10,8 @@ use Rattle.term_spec.proofs.WordsLaws.{term_lays, term-keeps, decode-length, dec
 use Rattle.view_spec.specs.Node.{meaning, nodes_rule, GoodNodes}
 use Rattle.view_spec.proofs.NodeLaws.{reach_limit, nodes-more}
 use Rattle.nodes.specs.NodeStore.{nodes_in, NodeStore, AnyStore, Reaches}
-use Rattle.places.specs.Rest.{Rest, rest, waiting, passed}
-use Rattle.places.specs.RestLaws.{none_wait}
+use Rattle.places.specs.Rest.{Rest, rest, passed}
+use Rattle.rope.specs.Copies.{Kept}
 use Rattle.rope.specs.Pieces.{Goes, Front, front, terms as over-terms, Below}
 use Rattle.rope.specs.PiecesLaws.{Along, Next, along_again, along_long, along_run, along_short, along_next, front_some, along_on}
 
@@ -30,6 +30,12 @@ pub record Task (terms : List ℕ) (used : ℕ) (nodes : List ℕ) (nodes-used n
   pub good : GoodNodes used (nodes_in nodes nodes-used)
   pub reaches : Reaches nodes nodes-used node len
   pub room : Lies term_layout before (base + len)
+
+-- Of the first `to` terms of the node those after the first `from` are there, whatever store of the words the node is of.
+abbrev pub CopiedPart : List ℕ → ℕ → List ℕ → ℕ → ℕ → ℕ → ℕ → ℕ → List ℕ → List ℕ → Type 0
+CopiedPart terms used nodes node len base from to before after =
+    (nodes-used : ℕ) → Task terms used nodes nodes-used node len base before
+    → after ≡ write term_layout before (base + from) (drop from (take to (shown terms used nodes nodes-used node)))
 
 -- The same where all terms of a slice are meant, and not only those that the nodes are over.
 pub task_out : {terms nodes : List ℕ} {nodes-used node len : ℕ} {work : List ℕ} → Below terms nodes nodes-used → Reaches nodes nodes-used node len
@@ -133,15 +139,15 @@ module _ {terms : List ℕ} {used : ℕ} {nodes : List ℕ} {nodes-used node len
       let low : node < length (nodes_in nodes nodes-used) = rw decode-length k.reaches.low in
       omega (arith, reach_limit (terms_in terms used) (nodes_in nodes nodes-used) (task_good k) node low, k.reaches.fits)
 
-  pub done_none : Task terms used nodes nodes-used node len base before → (w : List ℕ)
-      → Done terms used nodes nodes-used node len base before (rest node 0 len (waiting w 0)) before 0
-  done_none k w = record {
+  pub done_none : Task terms used nodes nodes-used node len base before → {at : Rest} → at ≡ rest node 0 len []
+      → {done : ℕ} → done ≡ 0 → Done terms used nodes nodes-used node len base before at before done
+  done_none k e z = rw z (record {
     task = k;
-    along = rw (none_wait w)
+    along = rw e
         (along_again (terms_in terms used) (nodes_in nodes nodes-used) node len 0 len (task_good k)
         (rw decode-length k.reaches.low) k.reaches.fits (omega arith) (omega arith));
     words = sym (write_none term_layout term_lays before base);
-  }
+  })
 
   module _ {at : Rest} {after : List ℕ} {done : ℕ} (so_far : Done terms used nodes nodes-used node len base before at after done) where
     taken-length : length (take done (shown terms used nodes nodes-used node)) ≡ done
@@ -206,9 +212,16 @@ module _ {terms : List ℕ} {used : ℕ} {nodes : List ℕ} {nodes-used node len
           → (to : ℕ) → to ≡ (base + done) * term_layout.width
           → {next : Rest} → next ≡ passed at r.len (rest node (done + r.len) (len - (done + r.len)) [])
           → {final : List ℕ} → final ≡ sets after to (take (r.len * term_layout.width) (drop (r.start * term_layout.width) source))
-          → Done terms used nodes nodes-used node len base before next final (done + r.len)
-      done_next source same to et es ew = rw (ew, et) (record {
+          → {total : ℕ} → total ≡ done + r.len → Done terms used nodes nodes-used node len base before next final total
+      done_next source same to et es ew e = rw (e, ew, et) (record {
         task = so_far.task;
         along = along_on so_far.along lt r.len next_run.within es;
         words = next_words source same;
       })
+
+-- What the slice of the terms keeps.
+pub done_source : (T : List ℕ → List ℕ) (used base : ℕ) → Kept T used base → {nodes : List ℕ} {nodes-used node len : ℕ} {before : List ℕ} {at : Rest}
+    {after : List ℕ} {done : ℕ} → Done (T before) used nodes nodes-used node len base before at after done
+    → (length (T after) ≡ length (T before)) × (take (used * term_layout.width) (T after) ≡ take (used * term_layout.width) (T before))
+done_source T used base kept {before = before} {after = after} so_far =
+    kept after before (done_length so_far) (done_below so_far (omega (arith, so_far.task.room)))

@@ -18,15 +18,14 @@ use Rattle.view_spec.specs.Node.{Node, meaning, nodes_rule}
 use Rattle.view_spec.proofs.NodeLaws.{reach_limit}
 use Rattle.view_spec.specs.Read.{equal_terms}
 use Rattle.view_spec.proofs.ReadLaws.{equal-terms}
-use Rattle.nodes.specs.NodeStore.{nodes_in, NodeStore}
+use Rattle.nodes.specs.NodeStore.{nodes_in, NodeStore, AnyStore}
 use Rattle.value.specs.Equal.{values_in, spec_equal_runs}
 use Rattle.numbers.specs.Numbers.{form_at}
 use Rattle.numbers.specs.NumbersLaws.{equal-forms, forms-equal, never}
-use Rattle.places.specs.Rest.{Rest, rest, waiting, passed}
-use Rattle.places.specs.RestLaws.{none_wait}
-use Rattle.rope.specs.declared.Progress.{Progress}
-use Rattle.rope.specs.declared.Progress.TheVariants.{Different, Equal}
-use Rattle.rope.specs.Pieces.{Goes, Front, front, values, ShowBoth}
+use Rattle.places.specs.Rest.{Rest, rest, passed}
+use Rattle.std.specs.Prelude.{Option, Some, None}
+use Rattle.equality.specs.Within.{RunsIn}
+use Rattle.rope.specs.Pieces.{Goes, Front, ToRun, front, values, ShowBoth}
 use Rattle.rope.specs.PiecesLaws.{Along, Next, along_again, along_run, along_next, front_some, along_on}
 use Rattle.rope.specs.Fronts.{Ropes, PlacesKnown, picked, equal_from, TellsFronts}
 
@@ -76,12 +75,12 @@ module _ (vs : List Value) (ns : List Node) (f g n : ℕ) where
 
 -- ---- what was found so far ----
 
-module _ (vs : List Value) (ns : List Node) (f g n : ℕ) {r : Progress} (tells : TellsFronts vs ns f g n r) where
-  pub told_different : r ≡ Different → false ≡ equal_from vs ns f g n 0
+module _ (vs : List Value) (ns : List Node) (f g n : ℕ) {r : Option ℕ} (tells : TellsFronts vs ns f g n r) where
+  pub told_different : r ≡ None → false ≡ equal_from vs ns f g n 0
   unfolding TellsFronts
   told_different e = sym (rw e at tells)
 
-  module _ {done : ℕ} (e : r ≡ Equal done) where
+  module _ {done : ℕ} (e : r ≡ Some done) where
     told : (done ≤ n) × (equal_from vs ns f g n 0 ≡ equal_from vs ns f g n done)
     unfolding TellsFronts
     told = rw e at tells
@@ -182,14 +181,41 @@ module _ {vs : List Value} {ns : List Node} {f g n done : ℕ} {a b : Rest} (w :
     }
 
   -- As far as that is told.
-  pub fronts_some : TellsFronts vs ns f g n (Equal done)
+  pub fronts_some : TellsFronts vs ns f g n (Some done)
   unfolding TellsFronts
   fronts_some = (w.left.most, w.alike)
 
   -- All n terms are read.
-  pub fronts_all : n ≤ done → TellsFronts vs ns f g n (Equal n)
+  pub fronts_all : n ≤ done → TellsFronts vs ns f g n (Some n)
   unfolding TellsFronts
   fronts_all h = (omega arith, w.alike ∙ from_all vs ns f g n done h ∙ sym (from_all vs ns f g n n (omega arith)))
+
+-- What a turn knows once both pieces are taken down to runs.
+pub record Turn (vs : List Value) (ns : List Node) (f g n : ℕ) (a b : Rest) (done x y k : ℕ) : Type 0 where
+  pub both : Fronts vs ns f g n a b done
+  pub pair : Pair vs ns f g n done a.left b.left x y k
+
+pub turn : {vs : List Value} {ns : List Node} {f g n done : ℕ} {a b a' b' : Rest} → Fronts vs ns f g n a b done → done < n
+    → {r s : Run} → ToRun ns a a' × (r ≡ front ns a'.node a'.skip a'.left) → ToRun ns b b' × (s ≡ front ns b'.node b'.skip b'.left)
+    → {k : ℕ} → k ≡ min r.len s.len → Turn vs ns f g n a' b' done r.start s.start k
+turn w lt (x, e) (y, q) z =
+    let both = fronts_run w x.goes y.goes in
+    record { both = both; pair = fronts_pair both lt x.begins e y.begins q z }
+
+-- The nodes as a store.
+pub ropes_store : {names w nodes : List ℕ} {over used f g n : ℕ} → Ropes names w nodes over used f g n → AnyStore nodes used
+ropes_store {over = over} asked = record { terms = over; few_terms = asked.few; store = asked.shows.store }
+
+-- The two runs lie among the terms.
+pub turn_lies : {names w nodes : List ℕ} {over used f g n done l m x y k : ℕ} → Ropes names w nodes over used f g n
+    → Pair (values_in names w over) (nodes_in nodes used) f g n done l m x y k
+    → RunsIn names w (record { start = x; len = k }) (record { start = y; len = k }) over
+turn_lies asked p = record {
+  store = asked.terms;
+  few = asked.few;
+  first = rw (values_length, decode-length) at p.left.inside;
+  second = rw (values_length, decode-length) at p.right.inside;
+}
 
 -- The answer of comparing the two runs.
 module _ (names words : List ℕ) (used : ℕ) {ns : List Node} {f g n done l m x y k : ℕ} (p : Pair (values_in names words used) ns f g n done l m x y k)
@@ -203,7 +229,7 @@ module _ (names words : List ℕ) (used : ℕ) {ns : List Node} {f g n done l m 
   fronts_next e =
       w.alike ∙ from_next vs ns f g n done k p.left.most (sym e ∙ ap₂ (λ x y. is_yes (sames? (forms x) (forms y))) p.left.shows p.right.shows)
 
-  pub fronts_differ : spec_equal_runs names words used x k y k ≡ false → TellsFronts vs ns f g n Different
+  pub fronts_differ : spec_equal_runs names words used x k y k ≡ false → TellsFronts vs ns f g n None
   unfolding TellsFronts
   fronts_differ e = fronts_next e
 
@@ -214,13 +240,13 @@ module _ (names words : List ℕ) (used : ℕ) {ns : List Node} {f g n done l m 
 
 -- No term is read yet.
 pub fronts_start : (names words nodes : List ℕ) (used nodes-used f g n : ℕ) → ShowBoth nodes used nodes-used f g n
-    → (v w : List ℕ) → Fronts (values_in names words used) (nodes_in nodes nodes-used) f g n (rest f 0 n (waiting v 0)) (rest g 0 n (waiting w 0)) 0
-fronts_start names words nodes used nodes-used f g n s v w =
+    → {a b : Rest} → a ≡ rest f 0 n [] → b ≡ rest g 0 n [] → Fronts (values_in names words used) (nodes_in nodes nodes-used) f g n a b 0
+fronts_start names words nodes used nodes-used f g n s ea eb =
     let vs = values_in names words used in
     let ns = nodes_in nodes nodes-used in
     let good = values-good names words nodes used nodes-used s.store in
     record {
-      left = rw (none_wait v) (along_again vs ns f n 0 n good (rw decode-length s.left.low) s.left.fits (omega arith) (omega arith));
-      right = rw (none_wait w) (along_again vs ns g n 0 n good (rw decode-length s.right.low) s.right.fits (omega arith) (omega arith));
+      left = rw ea (along_again vs ns f n 0 n good (rw decode-length s.left.low) s.left.fits (omega arith) (omega arith));
+      right = rw eb (along_again vs ns g n 0 n good (rw decode-length s.right.low) s.right.fits (omega arith) (omega arith));
       alike = refl;
     }

@@ -1,13 +1,11 @@
 -- What comparing the terms of two nodes asks and answers.
-use Rattle.std.specs.Prelude.{◌≡◌, List, map, Bool, false, length, get_or, drop, ℕ, ◌<◌, ◌≤◌}
+use Rattle.std.specs.Prelude.{◌≡◌, List, map, Bool, false, Option, Some, None, length, get_or, drop, ℕ, ◌<◌, ◌≤◌}
 use Rattle.term_spec.specs.Term.{limit}
 use Rattle.term_spec.specs.Value.{Value, char}
 use Rattle.view_spec.specs.Node.{Node, holds}
 use Rattle.view_spec.specs.Read.{equal_terms}
 use Rattle.value.specs.Equal.{TermStore}
 use Rattle.numbers.specs.Numbers.{Numbers}
-use Rattle.rope.specs.declared.Progress.{Progress}
-use Rattle.rope.specs.declared.Progress.TheVariants.{Different, Equal}
 use Rattle.rope.specs.Pieces.{ShowBoth}
 
 -- Two nodes have at least n terms each, of so many in a store that is within its rules.
@@ -40,6 +38,6 @@ equal_from vs ns f g n from =
     equal_terms (drop from (holds vs ns (record { node = f; len = n }))) (drop from (holds vs ns (record { node = g; len = n })))
 
 -- The first n terms of two nodes are not equal, or they are if those after the first `done` are.
-unfoldable pub TellsFronts : List Value → List Node → ℕ → ℕ → ℕ → Progress → Type 0
-TellsFronts vs ns f g n Different = equal_from vs ns f g n 0 ≡ false
-TellsFronts vs ns f g n (Equal done) = (done ≤ n) × (equal_from vs ns f g n 0 ≡ equal_from vs ns f g n done)
+unfoldable pub TellsFronts : List Value → List Node → ℕ → ℕ → ℕ → Option ℕ → Type 0
+TellsFronts vs ns f g n None = equal_from vs ns f g n 0 ≡ false
+TellsFronts vs ns f g n (Some done) = (done ≤ n) × (equal_from vs ns f g n 0 ≡ equal_from vs ns f g n done)

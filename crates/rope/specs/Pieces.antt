@@ -5,8 +5,7 @@ use Rattle.term_spec.specs.Term.{Term, Run, term_layout}
 use Rattle.term_spec.specs.Value.{Value}
 use Rattle.view_spec.specs.Node.{Node, cons_kind, node_at, GoodNodes}
 use Rattle.nodes.specs.NodeStore.{nodes_in, NodeStore, AnyStore, Reaches}
-use Rattle.places.specs.Rest.{Rest, rest, waiting, remain, Ready}
-use Rattle.rope.specs.declared.Piece.{Piece}
+use Rattle.places.specs.Rest.{Rest, remain, Ready}
 
 -- The steps that reading may take for each term and for each call.
 abbrev pub steps : ℕ
@@ -14,14 +13,6 @@ steps = 8
 
 abbrev pub steps_alone : ℕ
 steps_alone = 4096
-
--- The most fields on a stack.
-abbrev pub most_fields : ℕ
-most_fields = 32
-
--- A piece of the code with its stack.
-abbrev pub rest_of : Piece → List ℕ → Rest
-rest_of p w = rest p.node p.skip p.left (waiting w p.depth)
 
 -- There is a term to read in some store of the words: what a function asks that does not read how many nodes are used.
 pub record ReadyIn (w : List ℕ) (r : Rest) : Type 0 where
@@ -52,25 +43,19 @@ pub record Front (ns : List Node) (i k : ℕ) : Type 0 where
   pub cons : (node_at ns i).kind ≡ cons_kind
   pub inner : k < (node_at ns i).b
 
--- The same of a node of the words, in some store of them.
-pub record FrontIn (w : List ℕ) (i k : ℕ) : Type 0 where
-  pub used : ℕ
-  pub store : AnyStore w used
-  pub low : i < used
-  pub begins : Front (nodes_in w used) i k
-
 -- The piece t has the first terms of s, and begins with a run.
 pub record ToRun (ns : List Node) (s t : Rest) : Type 0 where
   pub goes : Goes ns s t
   pub begins : Front ns t.node t.skip
 
--- The same in every store of the words where s is ready.
-abbrev pub ToRunIn : List ℕ → Rest → Rest → Type 0
-ToRunIn w s t = (used : ℕ) → AnyStore w used → Ready (nodes_in w used) s → ToRun (nodes_in w used) s t
-
 -- The run of at most m terms that begins there.
 unfoldable pub front : List Node → ℕ → ℕ → ℕ → Run
 front ns i k m = record { start = (node_at ns i).a + k; len = min m ((node_at ns i).b - k) }
+
+-- t has the first terms of s, and begins with the run r, in every store of the words where s is ready.
+abbrev pub RunIn : List ℕ → Rest → Rest → Run → Type 0
+RunIn w s t r = (used : ℕ) → AnyStore w used → Ready (nodes_in w used) s
+    → ToRun (nodes_in w used) s t × (r ≡ front (nodes_in w used) t.node t.skip t.left)
 
 -- The terms that a store of nodes is over lie in a slice.
 pub record Below (terms nodes : List ℕ) (used : ℕ) : Type 0 where

@@ -4,175 +4,29 @@
 // by part (crate places).
 #![tactic(auto)]
 
-mod records;
+mod reader;
+mod source;
 
-ghost use Rattle.std.specs.Prelude.{◌≡◌, List, [], ℕ, ◌+◌, ◌-◌, ◌*◌, ◌<◌, ◌≤◌, take};
+ghost use Rattle.std.specs.Prelude.{◌≡◌, List, ℕ, ◌+◌, ◌≤◌, take};
 ghost use Rattle.term_spec.specs.Words.{Lies, decode, records, write};
 ghost use Rattle.term_spec.specs.Term.{term_layout, limit};
 ghost use Rattle.view_spec.specs.Node.{holds};
 ghost use Rattle.view_spec.specs.Read.{equal_terms};
-ghost use Rattle.words.specs.Records.{as_run};
 ghost use Rattle.nodes.specs.NodeStore.{nodes_in, NodeStore, Reaches};
 ghost use Rattle.value.specs.Equal.{TermStore, values_in};
-ghost use Rattle.places.specs.Rest.{Rest, passed};
-ghost use Rattle.rope.specs.Pieces.{steps, steps_alone, most_fields, rest_of, ReadyIn, ToRunIn, FrontIn, front as front_of, Below, Shows, ShowsOf, ShowBoth};
+ghost use Rattle.rope.specs.Pieces.{Below, Shows, ShowsOf, ShowBoth};
 ghost use Rattle.rope.specs.Fronts.{Ropes, RopesKnown, PlacesKnown, TellsFronts, equal_from, picked};
-ghost use Rattle.rope.specs.Copies.{CopiedOut, CopiedAfter};
+ghost use Rattle.rope.specs.CopiedLaws.{Task, CopiedPart};
 
 use equality::Outcome;
-use words::{Node, Run};
-
-// What is to be read next: `left` terms of a node after its first `skip`, then the fields on a stack of `depth` fields, the last one first.
-// `fuel` is how many steps down to a run may still be made: a store can be made so that each run takes a long way.
-#[derive(Clone, Copy)]
-struct Piece {
-    node: usize,
-    skip: usize,
-    left: usize,
-    depth: usize,
-    fuel: usize,
-}
-
-// The most fields on a stack, and their words: two to a field.
-const MOST_FIELDS: usize = 32;
-
-const STACK_WORDS: usize = 64;
-
-// The same terms, down to a piece that begins with a run, or any piece once the fuel is spent. Where the stack is full it is emptied, and the terms
-// of its fields are left out.
-fn to_run(nodes: &[u32], stack: &mut [u32; STACK_WORDS], at: Piece) -> Piece
-    requires ready { ReadyIn nodes.now (rest_of at stack.old) }
-    requires room { at.depth ≤ most_fields }
-    ensures { let before = rest_of at stack.old in
-        let after = rest_of result stack.new in
-        (result.depth ≤ most_fields) × (1 ≤ result.fuel → ToRunIn nodes.now before after) }
-{
-    let mut at = at;
-    loop {
-        if at.fuel == 0 {
-            return at;
-        }
-        at.fuel -= 1;
-        let n = words::get::<Node>(nodes, at.node);
-        if n.b <= at.skip {
-            at.skip -= n.b;
-            at.node = n.c;
-            continue;
-        }
-        if n.kind == words::CONS {
-            return at;
-        }
-        let here = n.b - at.skip;
-        if at.left <= here {
-            at.node = n.a;
-            continue;
-        }
-        if at.depth == MOST_FIELDS {
-            at.depth = 0;
-            continue;
-        }
-        words::set_word(stack, at.depth * 2, n.c);
-        words::set_word(stack, at.depth * 2 + 1, at.left - here);
-        at.depth += 1;
-        at.left = here;
-        at.node = n.a;
-    }
-}
-
-// The run that such a piece begins with.
-fn front(nodes: &[u32], at: Piece) -> Run
-    requires { FrontIn nodes.now at.node at.skip }
-    ensures { let words = nodes.now in
-        ((used : ℕ) → at.node < used → as_run result ≡ front_of (nodes_in words used) at.node at.skip at.left) }
-{
-    let n = words::get::<Node>(nodes, at.node);
-    Run {
-        start: n.a + at.skip,
-        len: nodes::smaller(at.left, n.b - at.skip),
-    }
-}
-
-// What is to be read after k terms of the piece. Where nothing is left there it is the first len terms of `node` after the first `done`.
-fn past(
-    stack: &[u32; STACK_WORDS],
-    at: Piece,
-    k: usize,
-    node: usize,
-    done: usize,
-    len: usize,
-) -> Piece
-    requires { (k ≤ at.left) × (at.skip + at.left ≤ limit) × (at.depth ≤ most_fields) × (done ≤ len) }
-    ensures { let fields = stack.now in
-        let again : Rest = record { node = node; skip = done; left = len - done; later = [] } in
-        (result.depth ≤ most_fields) × (rest_of result fields ≡ passed (rest_of at fields) k again) }
-{
-    let depth = at.depth;
-    if k < at.left {
-        return Piece {
-            node: at.node,
-            skip: at.skip + k,
-            left: at.left - k,
-            depth,
-            fuel: at.fuel,
-        };
-    }
-    if depth == 0 {
-        return Piece {
-            node,
-            skip: done,
-            left: len - done,
-            depth: 0,
-            fuel: at.fuel,
-        };
-    }
-    Piece {
-        node: words::word(stack, (depth - 1) * 2),
-        skip: 0,
-        left: words::word(stack, (depth - 1) * 2 + 1),
-        depth: depth - 1,
-        fuel: at.fuel,
-    }
-}
-
-// The steps that reading may take for each term and for each call, before it goes on part by part (crate places).
-const STEPS: usize = 8;
-
-const STEPS_ALONE: usize = 4096;
-
-// All of the first n terms of a node are to be read.
-fn whole(node: usize, n: usize) -> Piece
-    requires { n ≤ limit }
-    ensures { result ≡ record { node = node; skip = 0; left = n; depth = 0; fuel = n * steps + steps_alone } }
-{
-    Piece {
-        node,
-        skip: 0,
-        left: n,
-        depth: 0,
-        fuel: n * STEPS + STEPS_ALONE,
-    }
-}
+use places::pieces::Field;
+use reader::{Reader, STEPS_ALONE};
+use source::{After, Out, Source};
+use words::Run;
 
 // ---- comparing ----
 
-// How far comparing came: the terms are not equal, or so many are.
-#[derive(Clone, Copy)]
-enum Progress {
-    Different,
-    Equal(usize),
-}
-
-// The first k terms of a run.
-fn cut(r: Run, k: usize) -> Run
-    ensures { result ≡ record { start = r.start; len = k } }
-{
-    Run {
-        start: r.start,
-        len: k,
-    }
-}
-
-// Compares the first n terms of two nodes run by run, as far as fuel and budget go.
+// Compares the first n terms of two nodes run by run, as far as fuel and budget go: how many are equal, or none if they differ.
 fn equal_some(
     names: &[u8],
     terms: &[u32],
@@ -181,40 +35,35 @@ fn equal_some(
     g: usize,
     n: usize,
     budget: usize,
-) -> Progress
+) -> Option<usize>
     requires { (over used : ℕ) × Ropes names.now terms.now nodes.now over used f g n }
     ensures { let text = names.now in
         let store = terms.now in
         let words = nodes.now in
         ((over used : ℕ) → Ropes text store words over used f g n → TellsFronts (values_in text store over) (nodes_in words used) f g n result) }
 {
-    let mut f_stack = [0u32; STACK_WORDS];
-    let mut g_stack = [0u32; STACK_WORDS];
-    let mut a = whole(f, n);
-    let mut b = whole(g, n);
+    let mut a = Reader::new(Field { node: f, len: n });
+    let mut b = Reader::new(Field { node: g, len: n });
     let mut left = budget;
-    let mut done = 0;
-    while done < n {
-        a = to_run(nodes, &mut f_stack, a);
-        b = to_run(nodes, &mut g_stack, b);
-        if nodes::smaller(a.fuel, b.fuel) == 0 {
-            return Progress::Equal(done);
+    while a.done < n {
+        let Some(r) = a.to_run(nodes) else {
+            return Some(a.done);
+        };
+        let Some(s) = b.to_run(nodes) else {
+            return Some(a.done);
+        };
+        let k = r.len.min(s.len);
+        let first = Run { len: k, ..r };
+        let second = Run { len: k, ..s };
+        match equality::equal_runs_within(names, terms, first, second, left) {
+            Outcome::Different(_) => return None,
+            Outcome::Spent => return Some(a.done),
+            Outcome::Equal(rest) => left = rest,
         }
-        let r = front(nodes, a);
-        let s = front(nodes, b);
-        let k = nodes::smaller(r.len, s.len);
-        match equality::equal_runs_within(names, terms, cut(r, k), cut(s, k), left) {
-            Outcome::Different(_) => return Progress::Different,
-            Outcome::Spent => return Progress::Equal(done),
-            Outcome::Equal(rest) => {
-                left = rest;
-                done += k;
-                a = past(&f_stack, a, k, f, done, n);
-                b = past(&g_stack, b, k, g, done, n);
-            }
-        }
+        a.pass(k);
+        b.pass(k);
     }
-    Progress::Equal(n)
+    Some(n)
 }
 
 // Whether the terms at k places have the same numbers as those at k others.
@@ -230,12 +79,10 @@ fn equal_at(
         ((names w : List ℕ) (used : ℕ) → PlacesKnown names w used known.now ps qs k
         → result ≡ equal_terms (picked (values_in names w used) (take k ps)) (picked (values_in names w used) (take k qs))) }
 {
-    let mut i = 0;
-    while i < k {
+    for i in 0..k {
         if known[words::word(first, i)] != known[words::word(second, i)] {
             return false;
         }
-        i += 1;
     }
     true
 }
@@ -252,7 +99,7 @@ fn equal_parts(nodes: &[u32], known: &[u16], f: usize, g: usize, from: usize, n:
     let mut second = [0u32; places::PART];
     let mut done = from;
     while done < n {
-        let k = nodes::smaller(n - done, places::PART);
+        let k = places::PART.min(n - done);
         places::read_places(nodes, f, done, k, &mut first);
         places::read_places(nodes, g, done, k, &mut second);
         if !equal_at(known, &first, &second, k) {
@@ -309,8 +156,8 @@ pub fn equal_fronts(
         return true;
     }
     match equal_some(names, terms, nodes, f, g, n, terms_used + n + STEPS_ALONE) {
-        Progress::Different => false,
-        Progress::Equal(done) => {
+        None => false,
+        Some(done) => {
             if done == n {
                 return true;
             }
@@ -321,60 +168,52 @@ pub fn equal_fronts(
 
 // ---- copying ----
 
-// The first terms of a node become the first records of a work buffer, as many as the fuel allows: how many.
-fn copy_some_out(terms: &[u32], nodes: &[u32], node: usize, len: usize, work: &mut [u32]) -> usize
-    requires shows { Shows terms.now nodes.now node len }
-    requires room { Lies term_layout work.old len }
-    ensures { let before = work.old in
-        let after = work.new in
-        (result ≤ len) × CopiedOut terms.now nodes.now node len 0 result before after }
+// The first terms of a node become the records of the words, as many as the fuel allows: how many.
+fn copy_some<S: Source>(source: S, nodes: &[u32], whole: Field, words: &mut [u32]) -> usize
+    requires { (used : ℕ) × Task (S.terms source words.old) (S.used source) nodes.now used whole.node whole.len (S.base source) words.old }
+    ensures { let before = words.old in
+        (result ≤ whole.len)
+        × CopiedPart (S.terms source before) (S.used source) nodes.now whole.node whole.len (S.base source) 0 result before words.new }
 {
-    let mut stack = [0u32; STACK_WORDS];
-    let mut at = whole(node, len);
-    let mut done = 0;
-    while done < len {
-        at = to_run(nodes, &mut stack, at);
-        if at.fuel == 0 {
-            return done;
-        }
-        let r = front(nodes, at);
-        records::copy_run(
-            terms,
-            work,
-            r.start * words::TERM_WIDTH,
-            done * words::TERM_WIDTH,
-            r.len * words::TERM_WIDTH,
-        );
-        done += r.len;
-        at = past(&stack, at, r.len, node, done, len);
+    let mut reader = Reader::new(whole);
+    while reader.done < whole.len {
+        let Some(r) = reader.to_run(nodes) else {
+            return reader.done;
+        };
+        source.copy_run(words, r, reader.done);
+        reader.pass(r.len);
     }
-    len
+    whole.len
 }
 
 // The terms of a node after its first `from` and before its first `len` become the records after as many others. Not copied into its
 // callers, since few of their calls come here and it has much stack.
 #[inline(never)]
-fn copy_rest_out(
-    terms: &[u32],
-    nodes: &[u32],
-    node: usize,
-    from: usize,
-    len: usize,
-    work: &mut [u32],
-)
-    requires shows { Shows terms.now nodes.now node len }
-    requires room { (from ≤ len) × Lies term_layout work.old len }
-    ensures { let before = work.old in
-        let after = work.new in
-        CopiedOut terms.now nodes.now node len from len before after }
+fn copy_rest<S: Source>(source: S, nodes: &[u32], whole: Field, from: usize, words: &mut [u32])
+    requires task { (used : ℕ) × Task (S.terms source words.old) (S.used source) nodes.now used whole.node whole.len (S.base source) words.old }
+    requires within { from ≤ whole.len }
+    ensures { let before = words.old in
+        CopiedPart (S.terms source before) (S.used source) nodes.now whole.node whole.len (S.base source) from whole.len before words.new }
 {
     let mut list = [0u32; places::PART];
     let mut done = from;
-    while done < len {
-        let k = nodes::smaller(len - done, places::PART);
-        places::read_places(nodes, node, done, k, &mut list);
-        records::copy_places(terms, &list, k, work, done);
+    while done < whole.len {
+        let k = places::PART.min(whole.len - done);
+        places::read_places(nodes, whole.node, done, k, &mut list);
+        source::copy_places(source, &list, k, words, done);
         done += k;
+    }
+}
+
+// The terms of a field become the records of the words.
+fn copy_whole<S: Source>(source: S, nodes: &[u32], whole: Field, words: &mut [u32])
+    requires { (used : ℕ) × Task (S.terms source words.old) (S.used source) nodes.now used whole.node whole.len (S.base source) words.old }
+    ensures { let before = words.old in
+        CopiedPart (S.terms source before) (S.used source) nodes.now whole.node whole.len (S.base source) 0 whole.len before words.new }
+{
+    let done = copy_some(source, nodes, whole, words);
+    if done < whole.len {
+        copy_rest(source, nodes, whole, done, words);
     }
 }
 
@@ -390,73 +229,7 @@ pub fn copy_out(terms: &[u32], nodes: &[u32], node: usize, len: usize, work: &mu
         ((used : ℕ) → Below store words used → Reaches words used node len
         → after ≡ write term_layout before 0 (holds ts (nodes_in words used) (record { node = node; len = len }))) }
 {
-    let done = copy_some_out(terms, nodes, node, len, work);
-    if done < len {
-        copy_rest_out(terms, nodes, node, done, len, work);
-    }
-}
-
-// The first terms of a node become the records after the used terms, as many as the fuel allows: how many.
-fn copy_some_after(
-    terms: &mut [u32],
-    terms_used: usize,
-    nodes: &[u32],
-    node: usize,
-    len: usize,
-) -> usize
-    requires shows { ShowsOf nodes.now terms_used node len }
-    requires room { (terms_used ≤ limit) × Lies term_layout terms.old (terms_used + len) }
-    ensures { let before = terms.old in
-        let after = terms.new in
-        (result ≤ len) × CopiedAfter nodes.now terms_used node len 0 result before after }
-{
-    let mut stack = [0u32; STACK_WORDS];
-    let mut at = whole(node, len);
-    let mut done = 0;
-    while done < len {
-        at = to_run(nodes, &mut stack, at);
-        if at.fuel == 0 {
-            return done;
-        }
-        let r = front(nodes, at);
-        records::copy_run_up(
-            terms,
-            r.start * words::TERM_WIDTH,
-            (terms_used + done) * words::TERM_WIDTH,
-            r.len * words::TERM_WIDTH,
-        );
-        done += r.len;
-        at = past(&stack, at, r.len, node, done, len);
-    }
-    len
-}
-
-// The terms of a node after its first `from` and before its first `len` become the records after the used terms and as many others. As above, not
-// copied into its callers.
-#[inline(never)]
-fn copy_rest_after(
-    terms: &mut [u32],
-    terms_used: usize,
-    nodes: &[u32],
-    node: usize,
-    from: usize,
-    len: usize,
-)
-    requires shows { ShowsOf nodes.now terms_used node len }
-    requires few { (terms_used ≤ limit) × (from ≤ len) }
-    requires room { Lies term_layout terms.old (terms_used + len) }
-    ensures { let before = terms.old in
-        let after = terms.new in
-        CopiedAfter nodes.now terms_used node len from len before after }
-{
-    let mut list = [0u32; places::PART];
-    let mut done = from;
-    while done < len {
-        let k = nodes::smaller(len - done, places::PART);
-        places::read_places(nodes, node, done, k, &mut list);
-        records::copy_places_up(terms, &list, k, terms_used + done);
-        done += k;
-    }
+    copy_whole(Out { terms }, nodes, Field { node, len }, work);
 }
 
 // The first len terms of a node become the records after the used terms.
@@ -471,8 +244,10 @@ pub fn copy_after(terms: &mut [u32], terms_used: usize, nodes: &[u32], node: usi
         ((used : ℕ) → NodeStore words terms_used used → Reaches words used node len
         → after ≡ write term_layout before terms_used (holds ts (nodes_in words used) (record { node = node; len = len }))) }
 {
-    let done = copy_some_after(terms, terms_used, nodes, node, len);
-    if done < len {
-        copy_rest_after(terms, terms_used, nodes, node, done, len);
-    }
+    copy_whole(
+        After { used: terms_used },
+        nodes,
+        Field { node, len },
+        terms,
+    );
 }
