@@ -80,7 +80,7 @@ fn file(rt: &(impl Env + Files + Print), stores: &mut Stores) -> io::Result<()> 
 
 // ---- the sheet ----
 
-// The bytes of the answer to a sheet.
+// The bytes of the answer to a sheet. The program `sheet` has the same lines: a crate for them alone would be no plainer.
 fn sheet_answer<'a>(sheet: &[u8], out: &'a mut [u8]) -> &'a [u8] {
     match sheet_job::run_sheet(sheet, out) {
         Written::Bytes(n) => lines::first(out, n),
