@@ -1,23 +1,24 @@
 // The calls on the stores. A call's first number is the used nodes.
 use crate::answer::{Answer, Kind};
 use crate::line::{Line, Verb};
-use crate::stores::{LETTERS, SHARED, Stores};
+use crate::stores::{LETTERS, NODES, SHARED, Stores};
 use equality::Compared;
 use listing::Matched;
 use view::Field;
 use view_read::{Flat, Verdict};
-use words::{NODE_WIDTH, TERM_WIDTH};
+use words::refusal::Refusal;
+use words::{LIMIT, NODE_WIDTH, TERM_WIDTH};
 
 // The answer to a line's call. What has no call of its own, as a verb that builds a store with more or fewer than one number, joins.
 pub fn run(line: &Line, stores: &mut Stores) -> Answer {
     let nodes = stores.nodes.as_mut_slice();
     let terms = stores.terms.as_mut_slice();
     match line.verb {
-        Verb::Terms => terms_at(&line.numbers, nodes),
+        Verb::Terms => terms_at(line.numbers, nodes),
         Verb::Equal | Verb::StartsWith => compares(line, nodes),
-        Verb::Flatten => flatten(&line.numbers, nodes, terms),
-        Verb::First => first(&line.numbers, nodes, terms),
-        Verb::Compare => compare(&line.numbers, terms),
+        Verb::Flatten => flatten(line.numbers, nodes, terms),
+        Verb::First => first(line.numbers, nodes, terms),
+        Verb::Compare => compare(line.numbers, terms),
         _ => builds(line, nodes),
     }
 }
@@ -52,7 +53,10 @@ fn matched(answer: Matched, slots: [u32; 2], used: usize, sum: usize) -> Answer 
     let [start, len] = slots.map(|slot| slot as usize);
     match answer {
         Matched::Listed(_, _) => Answer::new(Kind::Listed, [start, len, used, sum]),
-        Matched::More(_, _) => Answer::new(Kind::Refused, [15, 0, used, sum]),
+        Matched::More(_, _) => Answer::new(
+            Kind::Refused,
+            [Refusal::MoreThanFit.number(), 0, used, sum],
+        ),
         Matched::Refused(n) => Answer::new(Kind::Refused, [n, 0, used, sum]),
     }
 }
@@ -87,16 +91,17 @@ fn builds(line: &Line, nodes: &mut [u32]) -> Answer {
             view::join(b"", &LETTERS, 4, nodes, &mut used, f, g)
         }
     };
-    let made = before.min(65537) * NODE_WIDTH..used.min(65537) * NODE_WIDTH;
+    let made = before.min(NODES) * NODE_WIDTH..used.min(NODES) * NODE_WIDTH;
     built(answer, used, total(nodes.get(made).unwrap_or_default()))
 }
 
 // So many zero words as terms, each the Char 0, so many of them used; and node 0.
-fn terms_at(numbers: &[usize; 5], words: &[u32]) -> Answer {
+fn terms_at(numbers: [usize; 5], words: &[u32]) -> Answer {
     let mut nodes = [0u32; 2 * NODE_WIDTH];
     let mut used = 1;
-    let terms = lines::first(words, numbers[0]);
-    let answer = view::from_runs(b"", terms, numbers[1], &mut nodes, &mut used, &[65535, 1]);
+    let [n, terms_used, ..] = numbers;
+    let terms = lines::first(words, n);
+    let answer = view::from_runs(b"", terms, terms_used, &mut nodes, &mut used, &[65535, 1]);
     built(answer, used, 0)
 }
 
@@ -115,15 +120,15 @@ fn compares(line: &Line, nodes: &[u32]) -> Answer {
     })
 }
 
-fn flatten(numbers: &[usize; 5], nodes: &[u32], work: &mut [u32]) -> Answer {
-    let [used, node, len, _, _] = *numbers;
+fn flatten(numbers: [usize; 5], nodes: &[u32], work: &mut [u32]) -> Answer {
+    let [used, node, len, ..] = numbers;
     let flat = view_read::flatten(b"", &LETTERS, 4, nodes, used, Field { node, len }, work);
     shown(flat, total(view_read::flat_part(&LETTERS, work, flat)))
 }
 
 // First match of e.1, which settles the field after abcd: where its run stands, and the sum of the used terms after it.
-fn first(numbers: &[usize; 5], nodes: &[u32], terms: &mut [u32]) -> Answer {
-    let [nodes_used, node, len, _, _] = *numbers;
+fn first(numbers: [usize; 5], nodes: &[u32], terms: &mut [u32]) -> Answer {
+    let [nodes_used, node, len, ..] = numbers;
     for (to, letter) in terms.iter_mut().zip(&LETTERS) {
         *to = *letter;
     }
@@ -140,13 +145,13 @@ fn first(numbers: &[usize; 5], nodes: &[u32], terms: &mut [u32]) -> Answer {
         &[],
         &mut slots,
     );
-    let settled = terms.get(..used.min(65536) * TERM_WIDTH);
+    let settled = terms.get(..used.min(LIMIT) * TERM_WIDTH);
     matched(answer, slots, used, total(settled.unwrap_or_default()))
 }
 
 // n terms of the top level of brackets from its term s on, and as many from its term p on.
-fn compare(numbers: &[usize; 5], terms: &[u32]) -> Answer {
-    let [s, p, n, _, _] = *numbers;
+fn compare(numbers: [usize; 5], terms: &[u32]) -> Answer {
+    let [s, p, n, ..] = numbers;
     let s = SHARED - 5 + s.min(5);
     let p = SHARED - 5 + p.min(5);
     let terms = lines::first(terms, SHARED * TERM_WIDTH);

@@ -90,11 +90,7 @@ impl Line {
 
     // The number of a line that has a verb, this number and nothing else.
     pub fn one_number(&self) -> Option<usize> {
-        if self.filled == 2 {
-            Some(self.numbers[0])
-        } else {
-            None
-        }
+        (self.filled == 2).then_some(self.numbers[0])
     }
 
     fn token(&mut self, token: &[u8]) {

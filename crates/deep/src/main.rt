@@ -1,6 +1,6 @@
 // Cases on stores as deep and as shared as can be, which no line could hold: the program builds them, and reads the calls on them with their
 // answers as lines of the file that its argument names (docs/CASES.md). Last comes the answer to the sheet on standard input.
-// Nothing recurses on a store's height, so a stack of 2 MB is enough. The stores are on the heap: 65,537 node records (one more than the limit)
+// Nothing recurses on a store's height, so a stack of 1 MB is enough. The stores are on the heap: 65,537 node records (one more than the limit)
 // and 16,384 term records.
 #![tactic(auto)]
 

@@ -3,7 +3,12 @@ ghost use Rattle.std.specs.Prelude.{◌≡◌, ◌<◌, ◌≤◌};
 ghost use Rattle.words.specs.Records.{Small, SmallNode};
 
 use std::alloc::{AllocError, Global};
-use words::{NODE_WIDTH, Node, TERM_WIDTH, Term};
+use words::{LIMIT, NODE_WIDTH, Node, TERM_WIDTH, Term};
+
+// The nodes and the terms that a store has room for: one node more than the limit.
+pub const NODES: usize = LIMIT + 1;
+
+const TERMS: usize = 16384;
 
 // What the calls are lent: the words of nodes, and of terms or of a work buffer.
 #[derive(Drop)]
@@ -14,15 +19,15 @@ pub struct Stores {
 
 impl Stores {
     pub fn new(alloc: Global) -> Result<Stores, AllocError> {
-        let nodes = vec![in alloc; 0u32; 65537 * NODE_WIDTH]?;
-        let terms = vec![in alloc; 0u32; 16384 * TERM_WIDTH]?;
+        let nodes = vec![in alloc; 0u32; NODES * NODE_WIDTH]?;
+        let terms = vec![in alloc; 0u32; TERMS * TERM_WIDTH]?;
         Ok(Stores { nodes, terms })
     }
 
     // Nodes 0 to `last`, and none past 65,535.
     pub fn build(&mut self, spine: Spine, last: usize) {
         let nodes = self.nodes.as_mut_slice();
-        for i in 0..(last.min(65535) + 1).min(nodes.len() / NODE_WIDTH) {
+        for i in 0..(last.min(LIMIT - 1) + 1).min(nodes.len() / NODE_WIDTH) {
             words::put_node(nodes, i, spine.node(i));
         }
     }
@@ -37,7 +42,26 @@ impl Stores {
 
 // The words of the terms abcd.
 pub static LETTERS: [u32; 4 * TERM_WIDTH] = [
-    0, 97, 0, 0, 0, 0, 98, 0, 0, 0, 0, 99, 0, 0, 0, 0, 100, 0, 0, 0,
+    0,
+    b'a' as u32,
+    0,
+    0,
+    0,
+    0,
+    b'b' as u32,
+    0,
+    0,
+    0,
+    0,
+    b'c' as u32,
+    0,
+    0,
+    0,
+    0,
+    b'd' as u32,
+    0,
+    0,
+    0,
 ];
 
 // ---- spines and chains ----
@@ -61,7 +85,7 @@ impl Spine {
             (_, 0) => node(words::NIL, 0, 0, 0, 0, 0),
             (Spine::Chain, _) => node(words::CONS, i % 4, 1, i - 1, 1, i),
             (_, 1) => node(words::CONS, 0, 4, 0, 1, 4),
-            (Spine::Right, _) => node(words::CONCAT, 1, 1, i - 1, i, (i + 3).min(65536)),
+            (Spine::Right, _) => node(words::CONCAT, 1, 1, i - 1, i, (i + 3).min(LIMIT)),
             (Spine::Left, _) => node(words::CONCAT, i - 1, 2, 1, i, 6),
         }
     }
@@ -85,9 +109,8 @@ fn node(kind: usize, a: usize, b: usize, c: usize, height: usize, reach: usize) 
 // Their terms.
 pub const SHARED: usize = 255 * 5;
 
-// Where in the level below the contents of a level's terms start. Pairs: the first two terms and the next two are each a pair of what they are;
-// the last is one of the second pair with the last below it. Crossed: the third and the fifth are a pair of the third and fourth below, the
-// fourth the other way round.
+// What the terms of a level hold. Pairs: the first two terms and the next two are each a pair of what they are; the last is one of the second pair
+// with the last below it. Crossed: the third and the fifth are a pair of the third and fourth below, the fourth the other way round.
 #[derive(Clone, Copy)]
 pub enum Brackets {
     Pairs,
@@ -95,7 +118,7 @@ pub enum Brackets {
 }
 
 impl Brackets {
-    // For a place of the level, from 0.
+    // Where in the level below the contents of a level's term `at` start.
     fn start(self, at: usize) -> usize
         ensures { result ≤ 3 }
     {
@@ -114,7 +137,8 @@ impl Brackets {
         let level = i / 5;
         let at = i % 5;
         if level == 0 {
-            return term(words::CHAR, if at < same { 97 } else { 98 }, 0, 0);
+            let letter = if at < same { b'a' } else { b'b' };
+            return term(words::CHAR, usize::from(letter), 0, 0);
         }
         term(words::BRACKET, (level - 1) * 5 + self.start(at), 2, level)
     }
