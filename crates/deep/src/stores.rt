@@ -40,28 +40,9 @@ impl Stores {
     }
 }
 
-// The words of the terms abcd.
+// The words of the terms abcd: of each its kind 0, its letter and three 0s.
 pub static LETTERS: [u32; 4 * TERM_WIDTH] = [
-    0,
-    b'a' as u32,
-    0,
-    0,
-    0,
-    0,
-    b'b' as u32,
-    0,
-    0,
-    0,
-    0,
-    b'c' as u32,
-    0,
-    0,
-    0,
-    0,
-    b'd' as u32,
-    0,
-    0,
-    0,
+    0, 97, 0, 0, 0, 0, 98, 0, 0, 0, 0, 99, 0, 0, 0, 0, 100, 0, 0, 0,
 ];
 
 // ---- spines and chains ----
