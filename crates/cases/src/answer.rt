@@ -1,8 +1,9 @@
 // What a call answers.
-use equality::Compared;
 use listing::Matched;
 use std::fmt;
-use view_read::{Flat, Verdict};
+use view::Field;
+use view_read::Flat;
+use words::refusal::Refusal;
 
 // The kind of an answer, by its number in a line. That of what stands in the work buffer is the region's.
 #[derive(Clone, Copy, PartialEq, Eq)]
@@ -101,46 +102,23 @@ impl Given {
             second,
         })
     }
+}
 
-    fn refused(number: usize) -> Given {
-        Given::new(Answer::Refused, number, 0)
-    }
-
-    // What check_terms answers: a refusal's number, or 0.
-    pub fn from_check(number: usize) -> Given {
-        match number {
-            0 => Given::new(Answer::Ok, 0, 0),
-            _ => Given::refused(number),
-        }
+impl From<()> for Given {
+    fn from(_ok: ()) -> Given {
+        Given::new(Answer::Ok, 0, 0)
     }
 }
 
-impl From<view::Answer> for Given {
-    fn from(answer: view::Answer) -> Given {
-        match answer {
-            view::Answer::Built(field) => Given::new(Answer::Field, field.node, field.len),
-            view::Answer::Refused(number) => Given::refused(number),
-        }
+impl From<Field> for Given {
+    fn from(field: Field) -> Given {
+        Given::new(Answer::Field, field.node, field.len)
     }
 }
 
-impl From<Verdict> for Given {
-    fn from(verdict: Verdict) -> Given {
-        match verdict {
-            Verdict::Yes => Given::new(Answer::Yes, 0, 0),
-            Verdict::No => Given::new(Answer::No, 0, 0),
-            Verdict::Refused(number) => Given::refused(number),
-        }
-    }
-}
-
-impl From<Compared> for Given {
-    fn from(compared: Compared) -> Given {
-        match compared {
-            Compared::Equal => Given::new(Answer::Yes, 0, 0),
-            Compared::Different => Given::new(Answer::No, 0, 0),
-            Compared::Refused(number) => Given::refused(number),
-        }
+impl From<bool> for Given {
+    fn from(yes: bool) -> Given {
+        Given::new(if yes { Answer::Yes } else { Answer::No }, 0, 0)
     }
 }
 
@@ -149,7 +127,6 @@ impl From<Flat> for Given {
         match flat {
             Flat::InStore(run) => Given::new(Answer::Store, run.start, run.len),
             Flat::InWork(n) => Given::new(Answer::Work, n, 0),
-            Flat::Refused(number) => Given::refused(number),
         }
     }
 }
@@ -157,9 +134,17 @@ impl From<Flat> for Given {
 impl From<Matched> for Given {
     fn from(matched: Matched) -> Given {
         match matched {
-            Matched::Listed(count, entries) => Given::new(Answer::Listed, count, entries),
-            Matched::More(count, entries) => Given::new(Answer::More, count, entries),
-            Matched::Refused(number) => Given::refused(number),
+            Matched::Listed { count, entries } => Given::new(Answer::Listed, count, entries),
+            Matched::More { count, entries } => Given::new(Answer::More, count, entries),
+        }
+    }
+}
+
+impl<T: Into<Given>> From<Result<T, Refusal>> for Given {
+    fn from(answer: Result<T, Refusal>) -> Given {
+        match answer {
+            Ok(value) => value.into(),
+            Err(refusal) => Given::new(Answer::Refused, refusal.number(), 0),
         }
     }
 }

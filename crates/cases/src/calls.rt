@@ -7,8 +7,9 @@ use crate::vocabulary::Call;
 use listing::Matched;
 use std::alloc::Global;
 use view::Field;
-use view_read::{Flat, Verdict};
+use view_read::Flat;
 use words::Run;
+use words::refusal::Refusal;
 
 // A call with what it takes.
 #[derive(Drop)]
@@ -21,7 +22,7 @@ pub enum Request {
     StartsWith(Field, Field),
     Equal(Field, Field),
     Flatten(Field),
-    FlatPart(Flat),
+    FlatPart(Result<Flat, Refusal>),
     Listing(Field),
     First(Field),
     CompareRuns(Run, Run),
@@ -60,12 +61,12 @@ impl Request {
     }
 }
 
-// An answer of flatten, as a line writes it.
-fn flat_from_values(kind: usize, start: usize, len: usize) -> Flat {
+// An answer of flatten, as a line writes it. No refusal shows anything, so one stands for all.
+fn flat_from_values(kind: usize, start: usize, len: usize) -> Result<Flat, Refusal> {
     match Answer::from_number(kind) {
-        Some(Answer::Store) => Flat::InStore(Run { start, len }),
-        Some(Answer::Work) => Flat::InWork(start),
-        _ => Flat::Refused(start),
+        Some(Answer::Store) => Ok(Flat::InStore(Run { start, len })),
+        Some(Answer::Work) => Ok(Flat::InWork(start)),
+        _ => Err(Refusal::WorkShort),
     }
 }
 
@@ -108,7 +109,7 @@ impl Stores {
     // A call that may add nodes.
     fn build<F>(&mut self, call: F) -> Given
     where
-        F: FnOnce(&[u8], &[u32], usize, &mut [u32], &mut usize) -> view::Answer,
+        F: FnOnce(&[u8], &[u32], usize, &mut [u32], &mut usize) -> Result<Field, Refusal>,
         requires { F.IsAlwaysCallable call }
     {
         let names = self.names.lent();
@@ -135,7 +136,7 @@ impl Stores {
     // A call that compares two fields.
     fn judge<F>(&self, call: F, first: Field, second: Field) -> Given
     where
-        F: FnOnce(&[u8], &[u32], usize, &[u32], usize, Field, Field) -> Verdict,
+        F: FnOnce(&[u8], &[u32], usize, &[u32], usize, Field, Field) -> Result<bool, Refusal>,
         requires { F.IsAlwaysCallable call }
     {
         Given::from(call(
@@ -165,7 +166,7 @@ impl Stores {
     }
 
     // flat_part of an answer that did not come of its slices; the work buffer has two terms' words.
-    fn flat_part(&mut self, flat: Flat) -> Given {
+    fn flat_part(&mut self, flat: Result<Flat, Refusal>) -> Given {
         let work = [9; 2 * words::TERM_WIDTH];
         self.shown
             .show(view_read::flat_part(self.terms.lent(), &work, flat));
@@ -185,7 +186,7 @@ impl Stores {
             &[u32],
             &[u32],
             &mut [u32],
-        ) -> Matched,
+        ) -> Result<Matched, Refusal>,
         requires { F.IsAlwaysCallable call }
     {
         let names = self.names.lent();
@@ -220,7 +221,7 @@ impl Stores {
     }
 
     fn check_terms(&self) -> Given {
-        Given::from_check(value::check_terms(
+        Given::from(value::check_terms(
             self.names.lent(),
             self.terms.lent(),
             self.terms.used(),

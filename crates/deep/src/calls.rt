@@ -1,190 +1,157 @@
-// The calls on the stores. A line's first number is the used nodes. An answer is its kind and four numbers: a field with the used nodes after the
-// call and the sum of the words of the nodes that were made; terms shown with the sum of their words; others are 0.
-ghost use Rattle.std.specs.Prelude.{◌≡◌, length};
-
-use crate::stores::{least, put_letters};
-use crate::{ANSWER, Line};
-use equality::Compared;
+// The calls on the stores. A call's first number is the used nodes.
+use crate::answer::{Answer, Kind};
+use crate::line::{Line, Verb};
+use crate::stores::{LETTERS, NODES, SHARED, Stores};
 use listing::Matched;
-use view::{Answer, Field};
-use view_read::{Flat, Verdict};
+use view::Field;
+use view_read::Flat;
+use words::refusal::Refusal;
+use words::{LIMIT, NODE_WIDTH, TERM_WIDTH};
 
-pub fn kind(word: &[u8]) -> usize {
-    lines::find(b"field refused yes no work listed", word)
+// The answer to a line's call. What has no call of its own, as a verb that builds a store with more or fewer than one number, joins.
+pub fn run(line: &Line, stores: &mut Stores) -> Answer {
+    let nodes = stores.nodes.as_mut_slice();
+    let terms = stores.terms.as_mut_slice();
+    match line.verb {
+        Verb::Terms => terms_at(line.numbers, nodes),
+        Verb::Equal | Verb::StartsWith => compares(line, nodes),
+        Verb::Flatten => flatten(line.numbers, nodes, terms),
+        Verb::First => first(line.numbers, nodes, terms),
+        Verb::Compare => compare(line.numbers, terms),
+        _ => builds(line, nodes),
+    }
 }
 
-fn answer(line: &mut Line, kind: usize, a: usize, b: usize, c: usize, sum: usize) {
-    line[ANSWER] = kind;
-    line[ANSWER + 1] = a;
-    line[ANSWER + 2] = b;
-    line[ANSWER + 3] = c;
-    line[ANSWER + 4] = sum;
+// ---- what the library's calls answer ----
+
+// A refusal by its number, with the numbers that an answer has besides.
+fn refused(refusal: Refusal, used: usize, sum: usize) -> Answer {
+    Answer::new(Kind::Refused, [refusal.number(), 0, used, sum])
 }
 
+fn built(answer: Result<Field, Refusal>, used: usize, made: usize) -> Answer {
+    match answer {
+        Ok(f) => Answer::new(Kind::Field, [f.node, f.len, used, made]),
+        Err(refusal) => refused(refusal, 0, made),
+    }
+}
+
+fn judged(answer: Result<bool, Refusal>) -> Answer {
+    match answer {
+        Ok(true) => Answer::new(Kind::Yes, [0; 4]),
+        Ok(false) => Answer::new(Kind::No, [0; 4]),
+        Err(refusal) => refused(refusal, 0, 0),
+    }
+}
+
+fn shown(answer: Result<Flat, Refusal>, sum: usize) -> Answer {
+    match answer {
+        Ok(Flat::InStore(r)) => Answer::new(Kind::Work, [r.start, r.len, 0, sum]),
+        Ok(Flat::InWork(n)) => Answer::new(Kind::Work, [n, 0, 0, sum]),
+        Err(refusal) => refused(refusal, 0, sum),
+    }
+}
+
+// A match of one variable, whose run fills the two slots.
+fn matched(
+    answer: Result<Matched, Refusal>,
+    slots: [u32; 2],
+    used: usize,
+    sum: usize,
+) -> Answer {
+    let [start, len] = slots.map(|slot| slot as usize);
+    match answer {
+        Ok(Matched::Listed { .. }) => Answer::new(Kind::Listed, [start, len, used, sum]),
+        Ok(Matched::More { .. }) => refused(Refusal::MoreThanFit, used, sum),
+        Err(refusal) => refused(refusal, used, sum),
+    }
+}
+
+// The sum of words.
 fn total(words: &[u32]) -> usize {
-    let mut sum: usize = 0;
-    let mut i = 0;
-    while i < words.len() {
-        sum = std::num::wrapping_add_usize(sum, words::word(words, i));
-        i += 1;
-    }
-    sum
-}
-
-// The sum of the words from a to e.
-fn sum(words: &[u32], a: usize, e: usize) -> usize {
-    if words.len() < e {
-        return 0;
-    }
-    if e < a {
-        return 0;
-    }
-    total(&words[a..e])
-}
-
-// The words of the terms abcd.
-const LETTERS: usize = 4 * words::TERM_WIDTH;
-
-fn letters() -> [u32; LETTERS]
-    ensures { 20 ≡ length result }
-{
-    let mut terms = [0u32; LETTERS];
-    put_letters(&mut terms);
-    terms
-}
-
-fn field(line: &Line) -> Field {
-    Field {
-        node: line[2],
-        len: line[3],
-    }
+    words
+        .iter()
+        .fold(0, |sum, word| sum.wrapping_add(*word as usize))
 }
 
 // ---- calls that build ----
 
-fn build(verb: usize, nodes: &mut [u32], used: &mut usize, line: &Line) -> Answer {
-    let terms = letters();
-    let f = field(line);
-    let k = line[4];
-    match verb {
-        7 => view::from_runs(b"", &terms, 4, nodes, used, &[1, 2]),
-        8 => view::rest(b"", &terms, 4, nodes, used, f, k),
-        9 => view::range(b"", &terms, 4, nodes, used, f, k, line[5]),
-        _ => view::join(b"", &terms, 4, nodes, used, f, Field { node: 1, len: k }),
-    }
-}
-
-pub fn builds(verb: usize, nodes: &mut [u32], line: &mut Line) {
-    let before = line[1];
+fn builds(line: &Line, nodes: &mut [u32]) -> Answer {
+    let [before, node, len, k, n] = line.numbers;
+    let f = Field { node, len };
     let mut used = before;
-    let a = build(verb, nodes, &mut used, line);
-    let made = sum(nodes, least(before, 65537) * 6, least(used, 65537) * 6);
-    match a {
-        Answer::Built(f) => answer(line, 1, f.node, f.len, used, made),
-        Answer::Refused(n) => answer(line, 2, n, 0, 0, made),
-    }
-}
-
-// The first n words; all where there are fewer.
-fn first_words<'a>(words: &'a [u32], n: usize) -> &'a [u32] {
-    if words.len() < n {
-        return words;
-    }
-    &words[0..n]
+    let answer = match line.verb {
+        Verb::FromRuns => view::from_runs(b"", &LETTERS, 4, nodes, &mut used, &[1, 2]),
+        Verb::Rest => view::rest(b"", &LETTERS, 4, nodes, &mut used, f, k),
+        Verb::Range => view::range(b"", &LETTERS, 4, nodes, &mut used, f, k, n),
+        _ => {
+            let g = Field { node: 1, len: k };
+            view::join(b"", &LETTERS, 4, nodes, &mut used, f, g)
+        }
+    };
+    let made = before.min(NODES) * NODE_WIDTH..used.min(NODES) * NODE_WIDTH;
+    built(answer, used, total(nodes.get(made).unwrap_or_default()))
 }
 
 // So many zero words as terms, each the Char 0, so many of them used; and node 0.
-pub fn terms_at(words: &[u32], line: &mut Line) {
-    let mut nodes = [0u32; 12];
+fn terms_at(numbers: [usize; 5], words: &[u32]) -> Answer {
+    let mut nodes = [0u32; 2 * NODE_WIDTH];
     let mut used = 1;
-    let terms = first_words(words, line[1]);
-    let a = view::from_runs(b"", terms, line[2], &mut nodes, &mut used, &[65535, 1]);
-    match a {
-        Answer::Built(f) => answer(line, 1, f.node, f.len, used, 0),
-        Answer::Refused(n) => answer(line, 2, n, 0, 0, 0),
-    }
+    let [n, terms_used, ..] = numbers;
+    let terms = lines::first(words, n);
+    let answer = view::from_runs(b"", terms, terms_used, &mut nodes, &mut used, &[65535, 1]);
+    built(answer, used, 0)
 }
 
 // ---- calls that read ----
 
-fn verdict(verb: usize, nodes: &[u32], line: &Line) -> Verdict {
-    let terms = letters();
-    let f = field(line);
+fn compares(line: &Line, nodes: &[u32]) -> Answer {
+    let [used, node, len, other, length] = line.numbers;
+    let f = Field { node, len };
     let g = Field {
-        node: line[4],
-        len: line[5],
+        node: other,
+        len: length,
     };
-    if verb == 11 {
-        return view_read::equal(b"", &terms, 4, nodes, line[1], f, g);
-    }
-    view_read::starts_with(b"", &terms, 4, nodes, line[1], f, g)
+    judged(match line.verb {
+        Verb::Equal => view_read::equal(b"", &LETTERS, 4, nodes, used, f, g),
+        _ => view_read::starts_with(b"", &LETTERS, 4, nodes, used, f, g),
+    })
 }
 
-pub fn compares(verb: usize, nodes: &[u32], line: &mut Line) {
-    match verdict(verb, nodes, line) {
-        Verdict::Yes => answer(line, 3, 0, 0, 0, 0),
-        Verdict::No => answer(line, 4, 0, 0, 0, 0),
-        Verdict::Refused(n) => answer(line, 2, n, 0, 0, 0),
-    }
-}
-
-pub fn flatten(nodes: &[u32], work: &mut [u32], line: &mut Line) {
-    let terms = letters();
-    let flat = view_read::flatten(b"", &terms, 4, nodes, line[1], field(line), work);
-    let shown = total(view_read::flat_part(&terms, work, flat));
-    match flat {
-        Flat::InStore(r) => answer(line, 5, r.start, r.len, 0, shown),
-        Flat::InWork(n) => answer(line, 5, n, 0, 0, shown),
-        Flat::Refused(n) => answer(line, 2, n, 0, 0, shown),
-    }
-}
-
-fn wide(x: u32) -> usize {
-    x as usize
+fn flatten(numbers: [usize; 5], nodes: &[u32], work: &mut [u32]) -> Answer {
+    let [used, node, len, ..] = numbers;
+    let flat = view_read::flatten(b"", &LETTERS, 4, nodes, used, Field { node, len }, work);
+    shown(flat, total(view_read::flat_part(&LETTERS, work, flat)))
 }
 
 // First match of e.1, which settles the field after abcd: where its run stands, and the sum of the used terms after it.
-pub fn first(nodes: &[u32], terms: &mut [u32], line: &mut Line) {
-    put_letters(terms);
+fn first(numbers: [usize; 5], nodes: &[u32], terms: &mut [u32]) -> Answer {
+    let [nodes_used, node, len, ..] = numbers;
+    for (to, letter) in terms.iter_mut().zip(&LETTERS) {
+        *to = *letter;
+    }
     let mut slots = [0u32; 2];
     let mut used = 4;
-    let m = listing::match_pattern_first(
+    let answer = listing::match_pattern_first(
         b"1",
         terms,
         &mut used,
         nodes,
-        line[1],
-        field(line),
+        nodes_used,
+        Field { node, len },
         &[7, 0, 1, 0],
-        &[0u32; 0],
+        &[],
         &mut slots,
     );
-    let held = sum(terms, 0, least(used, 65536) * words::TERM_WIDTH);
-    let start = wide(slots[0]);
-    let len = wide(slots[1]);
-    match m {
-        Matched::Listed(_, _) => answer(line, 6, start, len, used, held),
-        Matched::More(_, _) => answer(line, 2, 15, 0, used, held),
-        Matched::Refused(n) => answer(line, 2, n, 0, used, held),
-    }
+    let settled = terms.get(..used.min(LIMIT) * TERM_WIDTH);
+    matched(answer, slots, used, total(settled.unwrap_or_default()))
 }
 
 // n terms of the top level of brackets from its term s on, and as many from its term p on.
-pub fn compare(terms: &[u32], line: &mut Line) {
-    let s = 1270 + least(line[1], 5);
-    let p = 1270 + least(line[2], 5);
-    let n = line[3];
-    match equality::compare_runs(
-        b"",
-        first_words(terms, 1275 * words::TERM_WIDTH),
-        1275,
-        s,
-        n,
-        p,
-        n,
-    ) {
-        Compared::Equal => answer(line, 3, 0, 0, 0, 0),
-        Compared::Different => answer(line, 4, 0, 0, 0, 0),
-        Compared::Refused(m) => answer(line, 2, m, 0, 0, 0),
-    }
+fn compare(numbers: [usize; 5], terms: &[u32]) -> Answer {
+    let [s, p, n, ..] = numbers;
+    let s = SHARED - 5 + s.min(5);
+    let p = SHARED - 5 + p.min(5);
+    let terms = lines::first(terms, SHARED * TERM_WIDTH);
+    judged(equality::compare_runs(b"", terms, SHARED, s, n, p, n))
 }

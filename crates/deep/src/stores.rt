@@ -1,81 +1,82 @@
 // The stores: nodes above the terms abcd, and brackets that share their contents.
-ghost use Rattle.std.specs.Prelude.{◌<◌, ◌≤◌};
+ghost use Rattle.std.specs.Prelude.{◌≡◌, ◌<◌, ◌≤◌};
+ghost use Rattle.words.specs.Records.{Small, SmallNode};
 
-use words::{Node, Term};
+use std::alloc::{AllocError, Global};
+use words::{LIMIT, NODE_WIDTH, Node, TERM_WIDTH, Term};
 
-fn set(words: &mut [u32], p: usize, x: usize) {
-    if p < words.len() {
-        if x < 4294967296 {
-            words[p] = x as u32;
+// The nodes and the terms that a store has room for: one node more than the limit.
+pub const NODES: usize = LIMIT + 1;
+
+const TERMS: usize = 16384;
+
+// What the calls are lent: the words of nodes, and of terms or of a work buffer.
+#[derive(Drop)]
+pub struct Stores {
+    pub nodes: Vec<u32>,
+    pub terms: Vec<u32>,
+}
+
+impl Stores {
+    pub fn new(alloc: Global) -> Result<Stores, AllocError> {
+        let nodes = vec![in alloc; 0u32; NODES * NODE_WIDTH]?;
+        let terms = vec![in alloc; 0u32; TERMS * TERM_WIDTH]?;
+        Ok(Stores { nodes, terms })
+    }
+
+    // Nodes 0 to `last`, and none past 65,535.
+    pub fn build(&mut self, spine: Spine, last: usize) {
+        let nodes = self.nodes.as_mut_slice();
+        for i in 0..(last.min(LIMIT - 1) + 1).min(nodes.len() / NODE_WIDTH) {
+            words::put_node(nodes, i, spine.node(i));
+        }
+    }
+
+    pub fn share(&mut self, brackets: Brackets, same: usize) {
+        let terms = self.terms.as_mut_slice();
+        for i in 0..SHARED.min(terms.len() / TERM_WIDTH) {
+            words::put_term(terms, i, brackets.term(same, i));
         }
     }
 }
 
-fn put_term(terms: &mut [u32], i: usize, t: Term)
-    requires { i ≤ 65536 }
-{
-    let p = i * words::TERM_WIDTH;
-    set(terms, p, t.kind);
-    set(terms, p + 1, t.a);
-    set(terms, p + 2, t.b);
-    set(terms, p + 3, t.c);
-    set(terms, p + 4, t.d);
-}
-
-fn put_node(nodes: &mut [u32], i: usize, n: Node)
-    requires { i ≤ 65536 }
-{
-    set(nodes, i * 6, n.kind);
-    set(nodes, i * 6 + 1, n.a);
-    set(nodes, i * 6 + 2, n.b);
-    set(nodes, i * 6 + 3, n.c);
-    set(nodes, i * 6 + 4, n.height);
-    set(nodes, i * 6 + 5, n.reach);
-}
-
-fn letter(a: usize) -> Term {
-    Term {
-        kind: 0,
-        a,
-        b: 0,
-        c: 0,
-        d: 0,
-    }
-}
-
-// Terms 0 to 3: abcd.
-pub fn put_letters(terms: &mut [u32]) {
-    put_term(terms, 0, letter(97));
-    put_term(terms, 1, letter(98));
-    put_term(terms, 2, letter(99));
-    put_term(terms, 3, letter(100));
-}
+// The words of the terms abcd: of each its kind 0, its letter and three 0s.
+pub static LETTERS: [u32; 4 * TERM_WIDTH] = [
+    0, 97, 0, 0, 0, 0, 98, 0, 0, 0, 0, 99, 0, 0, 0, 0, 100, 0, 0, 0,
+];
 
 // ---- spines and chains ----
 
-pub fn least(a: usize, b: usize) -> usize
-    ensures { result ≤ b }
+// What lies above a node. In a right spine an a, then that node; in a left spine its first two terms, then abcd; in a chain one letter, then that
+// node, the letters going round.
+#[derive(Clone, Copy)]
+pub enum Spine {
+    Right,
+    Left,
+    Chain,
+}
+
+impl Spine {
+    // Node i. Node 0 is Nil, and node 1 of a spine holds abcd.
+    fn node(self, i: usize) -> Node
+        requires { i ≤ 65535 }
+        ensures { SmallNode result }
+    {
+        match (self, i) {
+            (_, 0) => node(words::NIL, 0, 0, 0, 0, 0),
+            (Spine::Chain, _) => node(words::CONS, i % 4, 1, i - 1, 1, i),
+            (_, 1) => node(words::CONS, 0, 4, 0, 1, 4),
+            (Spine::Right, _) => node(words::CONCAT, 1, 1, i - 1, i, (i + 3).min(LIMIT)),
+            (Spine::Left, _) => node(words::CONCAT, i - 1, 2, 1, i, 6),
+        }
+    }
+}
+
+fn node(kind: usize, a: usize, b: usize, c: usize, height: usize, reach: usize) -> Node
+    ensures { result ≡ record { kind = kind; a = a; b = b; c = c; height = height; reach = reach } }
 {
-    if a < b {
-        return a;
-    }
-    b
-}
-
-fn cons(a: usize, b: usize, c: usize, reach: usize) -> Node {
     Node {
-        kind: 1,
-        a,
-        b,
-        c,
-        height: 1,
-        reach,
-    }
-}
-
-fn concat(a: usize, b: usize, c: usize, height: usize, reach: usize) -> Node {
-    Node {
-        kind: 2,
+        kind,
         a,
         b,
         c,
@@ -84,81 +85,54 @@ fn concat(a: usize, b: usize, c: usize, height: usize, reach: usize) -> Node {
     }
 }
 
-// Node i over the node below it. In a right spine, 1: an a, then that node. In a left spine, 2: its first two terms, then abcd. In a chain: one
-// letter, then that node, the letters going round. Node 1 of a spine holds abcd.
-fn node(shape: usize, i: usize) -> Node
-    requires { (1 ≤ i) × (i ≤ 65535) }
-{
-    if 2 < shape {
-        return cons(i % 4, 1, i - 1, i);
-    }
-    if i == 1 {
-        return cons(0, 4, 0, 4);
-    }
-    if shape == 1 {
-        return concat(1, 1, i - 1, i, least(i + 3, 65536));
-    }
-    concat(i - 1, 2, 1, i, 6)
-}
-
-// Nodes 0 to `last`.
-pub fn build(shape: usize, last: usize, nodes: &mut [u32])
-    requires { last ≤ 65535 }
-{
-    let nil = Node {
-        kind: 0,
-        a: 0,
-        b: 0,
-        c: 0,
-        height: 0,
-        reach: 0,
-    };
-    put_node(nodes, 0, nil);
-    let mut i = 1;
-    while i <= last {
-        put_node(nodes, i, node(shape, i));
-        i += 1;
-    }
-}
-
 // ---- brackets that share contents: 255 levels of five terms ----
 
-// Where in the level below the contents of a level's terms start. Pairs: the first two terms and the next two are each a pair of what they are;
-// the last is one of the second pair with the last below it. Crossed: the third and the fifth are a pair of the third and fourth below, the
-// fourth the other way round.
-fn from(crossed: bool, at: usize) -> usize
-    ensures { result ≤ 3 }
-{
-    match at {
-        0 | 1 => 0,
-        2 => 2,
-        3 => if crossed { 3 } else { 2 },
-        _ => if crossed { 2 } else { 3 },
+// Their terms.
+pub const SHARED: usize = 255 * 5;
+
+// What the terms of a level hold. Pairs: the first two terms and the next two are each a pair of what they are; the last is one of the second pair
+// with the last below it. Crossed: the third and the fifth are a pair of the third and fourth below, the fourth the other way round.
+#[derive(Clone, Copy)]
+pub enum Brackets {
+    Pairs,
+    Crossed,
+}
+
+impl Brackets {
+    // Where in the level below the contents of a level's term `at` start.
+    fn start(self, at: usize) -> usize
+        ensures { result ≤ 3 }
+    {
+        match (self, at) {
+            (_, 0 | 1) => 0,
+            (_, 2) | (Brackets::Pairs, 3) | (Brackets::Crossed, 4) => 2,
+            _ => 3,
+        }
+    }
+
+    // Term i. The bottom level has Chars, a so many times and then b; above them stand brackets, each with two neighbours of the level below.
+    fn term(self, same: usize, i: usize) -> Term
+        requires { i < 1275 }
+        ensures { Small result }
+    {
+        let level = i / 5;
+        let at = i % 5;
+        if level == 0 {
+            let letter = if at < same { b'a' } else { b'b' };
+            return term(words::CHAR, usize::from(letter), 0, 0);
+        }
+        term(words::BRACKET, (level - 1) * 5 + self.start(at), 2, level)
     }
 }
 
-// Term i. The bottom level has Chars, a so many times and then b; above them stand brackets, each with two neighbours of the level below.
-fn shared(crossed: bool, same: usize, i: usize) -> Term
-    requires { i < 1275 }
+fn term(kind: usize, a: usize, b: usize, c: usize) -> Term
+    ensures { result ≡ record { kind = kind; a = a; b = b; c = c; d = 0 } }
 {
-    let level = i / 5;
-    let at = i % 5;
-    if level == 0 {
-        return letter(if at < same { 97 } else { 98 });
-    }
     Term {
-        kind: 3,
-        a: (level - 1) * 5 + from(crossed, at),
-        b: 2,
-        c: level,
+        kind,
+        a,
+        b,
+        c,
         d: 0,
-    }
-}
-
-pub fn share(crossed: bool, same: usize, terms: &mut [u32]) {
-    let mut i = 0;
-    while i < 1275 {
-        put_term(terms, i, shared(crossed, same, i));
-        i += 1;
     }
 }

@@ -65,11 +65,14 @@ fn token_length(text: &[u8]) -> usize
     }
 }
 
+// A number that goes on past this is too large.
+const LARGEST: usize = 100_000_000_000;
+
 // A decimal number, if the text is one and not too large. An empty text is 0.
 pub fn decimal(text: &[u8]) -> Option<usize> {
     let mut number: usize = 0;
     for byte in text {
-        if !byte.is_ascii_digit() || 100000000000 < number {
+        if !byte.is_ascii_digit() || LARGEST < number {
             return None;
         }
         number = number * 10 + usize::from(*byte - b'0');

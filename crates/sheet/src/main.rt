@@ -3,12 +3,12 @@
 
 use std::io;
 
-// The first n bytes go to standard output.
-fn print(rt: &impl Print, out: &[u8], n: usize) -> io::Result<()> {
-    if n <= out.len() {
-        rt.write_all(&out[..n])?;
+// The bytes of the answer to a sheet.
+fn answer<'a>(sheet: &[u8], out: &'a mut [u8]) -> &'a [u8] {
+    match sheet_job::run_sheet(sheet, out) {
+        Ok(n) => lines::first(out, n),
+        Err(_) => &[],
     }
-    Ok(())
 }
 
 // One byte more than the longest sheet has is read, so that what is longer is seen to be none.
@@ -16,8 +16,5 @@ fn main(rt: HostRuntime) -> io::Result<()> {
     let mut text = [0u8; sheet_job::LONGEST_SHEET + 1];
     let n = lines::read_full(&mut rt.reader(), &mut text)?;
     let mut out = [0u8; sheet_job::LONGEST_ANSWER];
-    match sheet_job::run_sheet(&text[..n], &mut out) {
-        Ok(k) => print(&rt, &out, k),
-        Err(_) => print(&rt, &out, 0),
-    }
+    rt.write_all(answer(&text[..n], &mut out))
 }

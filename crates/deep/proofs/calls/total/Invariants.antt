@@ -1,9 +1,0 @@
--- `total`: the index stays within the words.
-use Rattle.std.proofs.Common.{◌-◌, ◌≤◌, length}
-use Rattle.deep.proofs.calls.total.Given as goal
-
-abbrev pub invariant-loop-i : goal.invariant-loop-i
-invariant-loop-i l = l.i ≤ length l.words
-
-abbrev pub decreases-loop-i : goal.decreases-loop-i
-decreases-loop-i l = length l.words - l.i
