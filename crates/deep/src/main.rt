@@ -64,7 +64,7 @@ fn all_lines(rt: &impl Print, text: &[u8], stores: &mut Stores) -> io::Result<Co
 }
 
 // A file that cannot be opened has no cases, and none is printed.
-fn file(rt: &(impl Env + Files + Print), stores: &mut Stores) -> io::Result<()> {
+fn file(rt: &(impl Env + Files + Print + AllocGlobal)) -> io::Result<()> {
     let mut path = [0u8; 4096];
     let path = lines::arg(rt, 1, &mut path);
     let mut text = [0u8; 65536];
@@ -72,7 +72,8 @@ fn file(rt: &(impl Env + Files + Print), stores: &mut Stores) -> io::Result<()> 
         Some(mut file) => lines::read_full(&mut file, &mut text)?,
         None => 0,
     };
-    let Counts { cases, wrong } = all_lines(rt, &text[..n], stores)?;
+    let mut stores = Stores::new(rt.alloc())?;
+    let Counts { cases, wrong } = all_lines(rt, &text[..n], &mut stores)?;
     rt.write_all(path)?;
     println!(rt; ": {cases} cases, {wrong} wrong")
 }
@@ -96,6 +97,6 @@ fn answer_sheet(rt: &(impl Input + Print)) -> io::Result<()> {
 }
 
 fn main(rt: HostRuntime) -> io::Result<()> {
-    file(&rt, &mut Stores::new(rt.alloc())?)?;
+    file(&rt)?;
     answer_sheet(&rt)
 }
