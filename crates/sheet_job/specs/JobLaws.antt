@@ -151,6 +151,9 @@ sixteen_slots names p n e =
 pub sixteen_words : (names p : List ℕ) (n : ℕ) → n ≡ spec_name_count names p [] → length (take (name_words * n) (zeros (name_words * name_limit))) ≡ name_words * spec_name_count names p []
 sixteen_words names p n e = ap length (sixteen_slots names p n e) ∙ length-replicate {A = ℕ} (listing_slots * (2 * spec_name_count names p [])) 0 ∙ omega arith
 
+-- For lending those.
+pub ruleset slot_rules = (count_few, sixteen_words)
+
 -- `from_runs` was refused.
 pub runs-refused : (names p : List ℕ) (s t : Store) (c : Call) (a : Answer) (n : ℕ) → leaves a t ≡ step s c → a ≡ refused n → refusal_text n ≡ built_text names p (step s c)
 unfolding leaves built_text built_by effect_of answer_number

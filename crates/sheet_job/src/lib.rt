@@ -74,6 +74,7 @@ fn write_entries(slots: &[u32], k: usize, n: usize, out: &mut [u8])
 }
 
 // The line of a listing, then its c candidates of k entries.
+#[tactic(auto, using(crate::specs::JobLaws::entries_few))]
 fn print_candidates(
     number: usize,
     c: usize,
@@ -161,6 +162,7 @@ fn list_into(
 }
 
 // "16 slots", of as many entries as the pattern has names.
+#[tactic(auto, using(crate::specs::JobLaws::slot_rules))]
 fn list_field(
     names: &[u8],
     terms: &mut [u32],

@@ -7,13 +7,12 @@ use Rattle.std.proofs.Math.Bool.{Bool}
 use Rattle.std.specs.Bool.{MatchBool}
 use Rattle.std.specs.List.{AllWithin, HoldsAt, range_with_len}
 use Rattle.std.proofs.lemmas.List.FromFn.{length-range_with_len, get_or-range_with_len}
-use Prim.Native.Nat.{ℕ, suc, zero, ◌+◌, ◌-◌, ◌*◌, ◌<◌, ◌≤◌}
+use Prim.Native.Nat.{ℕ, suc, zero, ◌+◌, ◌*◌, ◌<◌, ◌≤◌}
 use native.Mathlib.Omega.{arith}
 use Rattle.term_spec.proofs.BoolLaws.{both_of, T_true}
 use Rattle.sheet_spec.specs.Sheet.{column_width, number_at, beyond, numbers_ok, zeros_ok, line_width, spec_line_ok, spec_lines_ok, numbers_at, words_at}
 use Rattle.sheet_spec.proofs.LineLaws.{numbers_length, words_length}
 use Rattle.sheet_spec.specs.Job.{laid, laid_at}
-use Rattle.sheet_form.specs.FormLaws.{part_at}
 use Rattle.sheet_read.specs.Read.{spec_numbers_below}
 use Rattle.sheet_spec.proofs.LaidLaws.{laid_at-length, laid_at_none, laid_at-start, laid_at_next, laid_at-snoc, laid-length}
 

@@ -78,6 +78,7 @@ fn line_ok(text: &[u8], p: usize, form: LineForm) -> bool
 }
 
 // n such lines.
+// A loop, as `all` was tried and left open what its closure asks: that line i lies in the text, a bound of a product of two variables.
 fn lines_ok(text: &[u8], p: usize, form: LineForm, n: usize) -> bool
     requires { (p + line_width form.kept form.zeros * n ≤ length text.now) × Short form }
     ensures { result ≡ spec_lines_ok text.now p form.kept form.zeros n }
@@ -172,6 +173,7 @@ fn fits(c: Counts, terms: &[u32], pattern: &[u32], runs: &[u32]) -> bool
 }
 
 // The lines of a sheet in form go to the first words of three slices.
+// They are lent for writing and go to this function alone: a struct of them would be made for one call and taken apart at once.
 #[tactic(auto, using(crate::specs::SheetLaws::body_rules))]
 fn read_body(text: &[u8], c: Counts, terms: &mut [u32], pattern: &mut [u32], runs: &mut [u32])
     requires in_form { InForm text.now (as_counts c) }

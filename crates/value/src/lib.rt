@@ -289,25 +289,12 @@ pub fn equal_symbols(names: &[u8], t: Term, u: Term) -> bool
     requires kinds { (t.kind ≡ u.kind) × (t.kind ≡ bracket_kind → ⊥) }
     ensures { result ≡ spec_equal_symbols names.now (as_term t) (as_term u) }
 {
-    if t.kind == words::IDENTIFIER {
-        return text::same_identifiers(&names[t.a..t.a + t.b], &names[u.a..u.a + u.b]);
+    match t.kind {
+        words::CHAR => t.a == u.a,
+        words::IDENTIFIER => text::same_identifiers(&names[t.a..t.a + t.b], &names[u.a..u.a + u.b]),
+        words::NUMBER => text::same_numbers(&names[t.a..t.a + t.b], &names[u.a..u.a + u.b]),
+        _ => t.a == u.a && t.b == u.b && t.c == u.c && t.d == u.d,
     }
-    if t.kind == words::NUMBER {
-        return text::same_numbers(&names[t.a..t.a + t.b], &names[u.a..u.a + u.b]);
-    }
-    if t.a != u.a {
-        return false;
-    }
-    if t.kind == words::CHAR {
-        return true;
-    }
-    if t.b != u.b {
-        return false;
-    }
-    if t.c != u.c {
-        return false;
-    }
-    t.d == u.d
 }
 
 // Whether a literal of a pattern (kinds 0 to 2) and a term are equal. An unknown or a bracket is none.

@@ -2,25 +2,13 @@
 use native.Mathlib.Omega.{arith}
 use Rattle.words.specs.Refusals.{told, spec_number}
 use Rattle.sheet_write.specs.Write.{written_of}
-use Rattle.sheet_job.specs.JobLaws.{short-written, entries_few, listing-length, listing-written}
+use Rattle.sheet_job.specs.JobLaws.{short-written, listing-length, listing-written}
 use Rattle.sheet_job.proofs.print_candidates.Goals as goal
-
-pub overflow_mul-all : goal.overflow_mul-all
-overflow_mul-all c =
-    omega (arith, entries_few c.args.c c.args.k c.requires.few)
-
-pub overflow_add-all : goal.overflow_add-all
-overflow_add-all c =
-    omega (arith, entries_few c.args.c c.args.k c.requires.few)
 
 pub returns-then-out-all : goal.returns-then-out-all
 unfolding written_of told spec_number
 returns-then-out-all c =
     short-written _ _ (omega (arith, listing-length c.args.number c.args.c c.args.k c.args.slots.now))
-
-pub write_entries-requires : goal.write_entries-requires
-write_entries-requires c =
-    (entries_few c.args.c c.args.k c.requires.few, c.requires.inside, omega (arith, c.write_line.auto.out))
 
 pub returns : goal.returns
 unfolding written_of told spec_number
