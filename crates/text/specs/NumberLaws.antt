@@ -1,5 +1,6 @@
 -- Laws of numbers: what is left of a text without its leading zeros, and when two numbers are equal.
-use Rattle.std.specs.Prelude.{◌≡◌, refl, List, [], ◌∷◌, ◌++◌, Bool, true, false, not, ◌&&◌, eqb, length, take, drop, get_or, replicate, ℕ, suc, zero, ◌+◌, ◌-◌, ◌<◌, ◌≤◌}
+use Rattle.std.specs.Prelude.{◌≡◌, refl, List, [], ◌∷◌, ◌++◌, Bool, true, false, not, ◌&&◌, eqb}
+use Rattle.std.specs.Prelude.{length, take, drop, get_or, replicate, ℕ, suc, zero, ◌+◌, ◌-◌, ◌<◌, ◌≤◌}
 use Rattle.std.specs.List.{list_all}
 use Rattle.std.proofs.Common.{ap, sym, ◌∙◌, eqb→eq, take-take, drop-drop, length-drop, arith}
 use Rattle.std.proofs.lemmas.Bool.{false≢true}
@@ -112,7 +113,8 @@ numbers_zeros d x y h k = rw (zeros-stripped d x h k)
 module _ (names : List ℕ) (o n p m : ℕ) (v : o + n ≤ length names) (w : p + m ≤ length names) where
   pub numbers_same : n ≡ m → numbers_equal (text_at names o n) (text_at names p m) ≡ texts_equal false (text_at names o n) (text_at names p n)
   numbers_same e =
-      numbers_alike _ _ (part_length names o n v ∙ e ∙ sym (part_length names p m w)) ∙ ap (λ k. texts_equal false (text_at names o n) (text_at names p k)) (sym e)
+      numbers_alike _ _ (part_length names o n v ∙ e ∙ sym (part_length names p m w))
+      ∙ ap (λ k. texts_equal false (text_at names o n) (text_at names p k)) (sym e)
 
   module _ (h : m < n) where
     more : length (text_at names p m) + (n - m) ≡ length (text_at names o n)

@@ -1,5 +1,6 @@
 -- Laws of texts: a part of the names byte by byte, what bytes spell, and when two texts are the same.
-use Rattle.std.specs.Prelude.{◌≡◌, refl, List, [], ◌∷◌, map, Bool, true, false, ◌&&◌, ◌||◌, T, eqb, leb, length, take, drop, get_or, ℕ, suc, zero, ◌+◌, ◌-◌, ◌<◌, ◌≤◌}
+use Rattle.std.specs.Prelude.{◌≡◌, refl, List, [], ◌∷◌, map, Bool, true, false, ◌&&◌, ◌||◌, T}
+use Rattle.std.specs.Prelude.{eqb, leb, length, take, drop, get_or, ℕ, suc, zero, ◌+◌, ◌-◌, ◌<◌, ◌≤◌}
 use Rattle.std.specs.List.{list_all, zip}
 use Rattle.std.specs.Str.{bytes_eq}
 use Rattle.std.specs.Bool.{one_answer}
