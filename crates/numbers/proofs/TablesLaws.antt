@@ -6,7 +6,7 @@ use Rattle.std.proofs.Math.Bool.{true}
 use borrow.Author.Tests.{eq-eqb, ne_eqb}
 use Rattle.std.proofs.Math.ListN.{get_or}
 use Rattle.std.proofs.lemmas.List.{length-replicate}
-use Prim.Native.Nat.{ℕ, suc, ◌+◌, ◌<◌, ◌≤◌}
+use Prim.Native.Nat.{ℕ, suc, zero, ◌+◌, ◌-◌, ◌<◌, ◌≤◌}
 use native.Mathlib.Omega.{arith}
 use Rattle.term_spec.specs.Words.{record_at}
 use Rattle.term_spec.specs.Term.{Term, term_layout, limit}
@@ -38,8 +38,11 @@ tables_none base names w used numbers store few room = record {
 -- Term k, t, has bucket b.
 module _ {base : ℕ} {names w : List ℕ} {used k : ℕ} {numbers heads earlier : List ℕ} (tables : Tables base names w used k numbers heads earlier)
     {b : ℕ} {t : Term} (key : b ≡ key_of base names numbers t) (read : t ≡ record_at term_layout w k) where
-  pub key_room : b < buckets
-  key_room = omega (arith, key_below base names numbers t)
+  pub key_low : b < buckets
+  key_low = omega (arith, key_below base names numbers t)
+
+  pub key_room : b < length heads
+  key_room = omega (arith, key_low, tables.heads-room)
 
   pub key_here : b ≡ key_at base names w numbers k
   key_here = key ∙ ap (key_of base names numbers) read
@@ -79,13 +82,25 @@ pub record Found (names w : List ℕ) (used : ℕ) (numbers : List ℕ) (k c : �
   pub own : Entered numbers c
   pub same : equal_at names w used c k ≡ true
 
-module _ (names w : List ℕ) (used : ℕ) (numbers : List ℕ) (k : ℕ) (place : Option ℕ) (told : Placed names w used numbers k (entry place)) where
-  pub placed_none : place ≡ None → Placed names w used numbers k 0
-  placed_none e = rw e at told
+pub placed_none : (names w : List ℕ) (used : ℕ) (numbers : List ℕ) (k at : ℕ) → Placed names w used numbers k at → at ≡ 0 → Placed names w used numbers k 0
+placed_none names w used numbers k at h e = rw e at h
 
-  pub placed_found : {c : ℕ} → place ≡ Some c → Found names w used numbers k c
+pub placed-found : (names w : List ℕ) (used : ℕ) (numbers : List ℕ) (k at : ℕ) → Placed names w used numbers k at → (at ≡ 0 → ⊥)
+    → Found names w used numbers k (at - 1)
+unfolding Placed
+placed-found names w used numbers k zero h n = absurd (n refl)
+placed-found names w used numbers k (suc c) h n =
+    let e : suc c - 1 ≡ c = omega arith in
+    rw e (record { low = h.0; own = h.1; same = h.2 })
+
+-- The same of a place that there may be.
+module _ (names w : List ℕ) (used : ℕ) (numbers : List ℕ) (k : ℕ) (place : Option ℕ) (told : Placed names w used numbers k (entry place)) where
+  pub place_none : place ≡ None → Placed names w used numbers k 0
+  place_none e = rw e at told
+
+  pub place_found : {c : ℕ} → place ≡ Some c → Found names w used numbers k c
   unfolding Placed
-  placed_found e = let (low, own, same) = rw e at told in record { low = low; own = own; same = same }
+  place_found e = let (low, own, same) = rw e at told in record { low = low; own = own; same = same }
 
 -- ---- one term more ----
 

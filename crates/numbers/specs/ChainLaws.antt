@@ -1,5 +1,5 @@
 -- Laws of chains: none entered yet; another key and another test that are the same below; one place passed; one place entered; looking along one.
-use Rattle.std.specs.Prelude.{◌≡◌, refl, List, ◌⊎◌, length, get_or, set, replicate, ℕ, suc, ◌+◌, ◌<◌, ◌≤◌}
+use Rattle.std.specs.Prelude.{◌≡◌, refl, List, ◌⊎◌, length, get_or, set, replicate, ℕ, suc, ◌+◌, ◌-◌, ◌<◌, ◌≤◌}
 use Rattle.std.proofs.Common.{sym, ap, ◌∙◌, inl, inr, get_or-set_same, get_or-set_other, arith}
 use Rattle.std.proofs.Math.Decide.{ℕ_discrete, dec_lt}
 use Rattle.term_spec.proofs.ListLaws.{zeros-at}
@@ -196,6 +196,14 @@ module _ {key : ℕ → ℕ} {Entered Wanted : ℕ → Type 0} {k : ℕ} {heads 
         in_bucket = before_in;
         all = before-all;
       }
+
+  -- Where it is not at the end, it is at a place, by a number that is one more.
+  module _ {at : ℕ} (here : Sought key Entered Wanted k heads earlier b at) (more : at ≡ 0 → ⊥) where
+    place : at ≡ suc (at - 1)
+    place = omega arith
+
+    pub sought_place : Sought key Entered Wanted k heads earlier b (suc (at - 1))
+    sought_place = rw place at here
 
   -- At the end no place is wanted.
   pub sought_none : {at : ℕ} → Sought key Entered Wanted k heads earlier b at → at ≡ 0 → (i : ℕ) → i < k → Entered i → Wanted i → ⊥

@@ -4,6 +4,7 @@ use Rattle.std.proofs.Math.Path.{refl, ap, sym}
 use Rattle.std.proofs.Common.{◌∙◌, ⊎_elim, le-leb, eqb→eq, length-set, length-drop, pow-add, take-add, take-suc, get_or-drop, get_or-set_same, get_or-set_other, eq-or-lt_of_le, add-mul, mul_comm, mul-le-mul, pow-suc, add-one}
 use mathlib.Core.List.{List, [], ◌∷◌, ◌++◌, map, map-append}
 use Rattle.std.proofs.Math.Bool.{true, false}
+use Rattle.std.proofs.lemmas.Bool.{lt-leb}
 use Rattle.std.proofs.Math.ListN.{length, length-replicate}
 use Rattle.std.proofs.lemmas.List.{take-set-le}
 use Prim.Native.Nat.{ℕ, suc, ◌+◌, ◌*◌, ◌-◌, ◌/◌, ◌%◌, ◌^◌, ◌<◌, ◌≤◌}
@@ -83,11 +84,17 @@ module _ (base : ℕ) where
   pub digest_next : (l : List ℕ) (i : ℕ) → i < length l → digest base (take (i + 1) l) ≡ more base (digest base (take i l)) (get_or l i 0)
   digest_next l i h = ap (digest base) (rw (add-one, take-suc l i 0)) ∙ digest-more _ _
 
-  pub text_next : (f : ℕ → ℕ) (text : List ℕ) (i : ℕ) → i < length text
+  pub bytes_next : (f : ℕ → ℕ) (text : List ℕ) (i : ℕ) → i < length text
       → digest base (map f (take (i + 1) text)) ≡ more base (digest base (map f (take i text))) (f (get_or text i 0))
-  text_next f text i h =
+  bytes_next f text i h =
       let longer : take (i + 1) text ≡ take i text ++ (get_or text i 0 ∷ []) = rw (add-one, take-suc text i 0) in
       ap (λ t. digest base (map f t)) longer ∙ ap (digest base) (map-append f (take i text) _) ∙ digest-more _ _
+
+  pub text_next : (f : ℕ → ℕ) (names : List ℕ) (o i : ℕ) → o + i < length names
+      → digest base (map f (text_at names o (i + 1))) ≡ more base (digest base (map f (text_at names o i))) (f (get_or names (o + i) 0))
+  text_next f names o i h =
+      let within : i < length (drop o names) = rw length-drop (omega arith) in
+      bytes_next f (drop o names) i within ∙ ap (λ c. more base (digest base (map f (text_at names o i))) (f c)) (get_or-drop o names i 0)
 
   -- What a list goes on from is multiplied by the base for each of its numbers.
   digest_from-parts : (h : ℕ) (b : List ℕ) → h < prime → digest_from base h b ≡ (h * base ^ length b + digest base b) % prime
@@ -131,6 +138,21 @@ module _ (base : ℕ) where
       let parts = digest-parts (take s l) rest ∙ ap (λ k. (front * base ^ k + digest base rest) % prime) (part_length l s n h) in
       let whole = ap (digest base) (take-add s n l) ∙ parts in
       rw (whole, times_mod front (base ^ n) prime) (minus_mod (front * base ^ n) (digest base rest) (digest-below rest))
+
+-- ---- lowering ----
+
+-- A byte before the capitals, one after them, and a capital.
+pub lower-before : (c : ℕ) → c < 65 → lower c ≡ c
+unfolding lower
+lower-before c h = rw (lower, lt-leb 65 c h)
+
+pub lower-after : (c : ℕ) → 90 < c → lower c ≡ c
+unfolding lower
+lower-after c h = rw (lower, le-leb 65 c (omega arith), lt-leb c 90 h)
+
+pub lower_capital : (c : ℕ) → 65 ≤ c → c ≤ 90 → lower c ≡ c + 32
+unfolding lower
+lower_capital c h k = rw (lower, le-leb 65 c h, le-leb c 90 k)
 
 -- ---- marks ----
 

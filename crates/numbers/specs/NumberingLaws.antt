@@ -1,10 +1,11 @@
 -- What holds while terms are numbered, one after another: before the first, with one more, and after the last.
-use Rattle.std.specs.Prelude.{◌≡◌, refl, List, length, set, take, drop, ℕ, ◌+◌, ◌/◌, ◌%◌, ◌<◌, ◌≤◌}
+use Rattle.std.specs.Prelude.{◌≡◌, refl, List, length, set, take, drop, Bool, true, false, ℕ, ◌+◌, ◌/◌, ◌%◌, ◌<◌, ◌≤◌}
 use Rattle.std.proofs.Common.{ap, sym, ◌∙◌, length-set, take-suc-set, drop-set-lt, add-one, arith}
 use Rattle.term_spec.specs.Term.{limit}
 use Rattle.numbers.specs.Digest.{prime, stride, more, digest_from, digest, Marked}
 use Rattle.numbers.specs.DigestLaws.{digest-below, digest-more, marked_set, marked_next, marked_write}
-use Rattle.numbers.specs.Numbers.{Tables}
+use Rattle.numbers.specs.Numbers.{Numbers, Tables}
+use Rattle.numbers.specs.NumbersLaws.{never}
 
 -- The first k terms have their numbers, whose digest is `sum`; there is room for a mark of every so many, and what is past the used
 -- terms is as before.
@@ -36,6 +37,10 @@ module _ {base : ℕ} {names w : List ℕ} {used : ℕ} {before lent numbers mar
     (was : Numbering base names w used before lent numbers marks heads earlier sum k) where
   pub sum_below : sum < prime
   sum_below = omega (arith, was.summed, digest-below base (take k numbers))
+
+  -- Every term has its number.
+  pub numbering_done : used ≤ k → Numbers names w used used numbers
+  numbering_done h = let le = was.within in let e : k ≡ used = omega arith in rw e at was.tables.known
 
   -- Term k gets the number n.
   module _ (n : ℕ) {sum' : ℕ} (inside : k < used) (told : sum' ≡ more base sum n) where
@@ -82,3 +87,16 @@ module _ {base : ℕ} {names w : List ℕ} {used : ℕ} {before lent numbers mar
           let room = was.marks_room in
           let few = was.tables.few in
           next (length-set marks ((k + 1) / stride) sum') (rw next_sum (marked_write (marked_set was.marked n) h (omega arith)))
+
+-- ---- attempts ----
+
+-- How many attempts can follow, `left` being how many are left before the last: none once the numbering is done.
+abbrev pub attempts : Bool → ℕ → ℕ
+attempts true left = 0
+attempts false left = left + 1
+
+-- An attempt more, after which fewer are left, unless it is the last one.
+pub attempts_fall : (done now : Bool) (left next : ℕ) → done ≡ false → (now ≡ false → next < left) → attempts now next < attempts done left
+attempts_fall true now left next e fewer = never refl e
+attempts_fall false true left next e fewer = omega arith
+attempts_fall false false left next e fewer = let lt = fewer refl in omega arith

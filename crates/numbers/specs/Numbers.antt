@@ -1,5 +1,5 @@
 -- The numbers of terms: equal terms have one number, others different ones; and the tables by which they are found.
-use Rattle.std.specs.Prelude.{◌≡◌, List, [], ◌∷◌, map, true, eqb, length, get_or, ℕ, suc, zero, ◌+◌, ◌%◌, ◌<◌, ◌≤◌}
+use Rattle.std.specs.Prelude.{◌≡◌, List, [], ◌∷◌, map, true, eqb, length, get_or, ℕ, suc, zero, ◌+◌, ◌*◌, ◌%◌, ◌<◌, ◌≤◌}
 use Rattle.term_spec.specs.Words.{record_at}
 use Rattle.term_spec.specs.Text.{lower, text_at}
 use Rattle.term_spec.specs.Term.{Term, term_layout, part, contents_run, limit}
@@ -81,3 +81,7 @@ pub record Searched (base : ℕ) (names w : List ℕ) (used : ℕ) (numbers head
 unfoldable pub Placed : List ℕ → List ℕ → ℕ → List ℕ → ℕ → ℕ → Type 0
 Placed names w used numbers k zero = (i : ℕ) → i < k → Entered numbers i → equal_at names w used i k ≡ true → ⊥
 Placed names w used numbers k (suc c) = (c < k) × Entered numbers c × (equal_at names w used c k ≡ true)
+
+-- What numbering all terms can cost at most: each is compared with each other one, and reading a term's contents costs no more than there are terms.
+abbrev pub largest_cost : ℕ
+largest_cost = limit * limit * limit

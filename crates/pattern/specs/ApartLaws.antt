@@ -47,6 +47,9 @@ module _ {P Q : Type 0} where
     pub tells-one : Tells P Q free OneRepeats → Q
     tells-one (one_repeats h) = h
 
+    pub tells_given_up : Tells P Q free GivenUp → free ≡ false
+    tells_given_up (given_up h) = h
+
     -- what is free and does not tell that none repeats tells that one does
     pub tells_free : (o : Outcome) → Tells P Q free o → free ≡ true → (o ≡ NoneRepeats → ⊥) → Q
     tells_free NoneRepeats h e n = absurd (n refl)
@@ -170,19 +173,20 @@ module _ {base : ℕ} {names w : List ℕ} {k : ℕ} {heads earlier : List ℕ} 
 
   -- Binding k has bucket b.
   module _ {b : ℕ} (key : b ≡ bucket_in base names w k) where
-    pub bucket_room : b < buckets
-    bucket_room = omega (arith, bucket_below base names (record_at binding_layout w k).offset (record_at binding_layout w k).size)
+    pub bucket_low : b < buckets
+    bucket_low = omega (arith, bucket_below base names (record_at binding_layout w k).offset (record_at binding_layout w k).size)
+
+    pub bucket_room : b < length heads
+    bucket_room = omega (arith, bucket_low, was.heads-room)
 
     pub tables_entered : k < limit → NameTables base names w (k + 1) (set heads b (k + 1)) (set earlier k (get_or heads b 0))
     tables_entered h =
         let room = was.earlier-room in
-        let rooms = was.heads-room in
-        let low = bucket_room in
         record {
           texts = was.texts;
           heads-room = length-set heads b (k + 1) ∙ was.heads-room;
           earlier-room = length-set earlier k (get_or heads b 0) ∙ was.earlier-room;
-          chains = chains_entered was.chains b (sym key) h (omega arith) (omega arith);
+          chains = chains_entered was.chains b (sym key) h bucket_room (omega arith);
         }
 
 -- ---- looking for a name ----

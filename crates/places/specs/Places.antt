@@ -1,9 +1,11 @@
 -- The places of a rope's terms: the terms that a node gives over the list of all places of the store. And what the functions that read them
 -- keep in words: a stack of fields, and a table of the nodes that were read.
-use Rattle.std.specs.Prelude.{◌≡◌, List, length, get_or, set, take, drop, ℕ, suc, zero, ◌+◌, ◌*◌, ◌/◌, ◌%◌, ◌≤◌}
+use Rattle.std.specs.Prelude.{◌≡◌, List, [], length, get_or, set, take, drop, ℕ, suc, zero, ◌+◌, ◌*◌, ◌/◌, ◌%◌, ◌≤◌}
 use Rattle.term_spec.specs.ListLaws.{numbers_from}
 use Rattle.view_spec.specs.Node.{Node, meaning}
 use Rattle.nodes.specs.NodeStore.{nodes_in, NodeStore, AnyStore, Reaches}
+use Rattle.places.specs.declared.pieces.Piece.{Piece}
+use Rattle.places.specs.Rest.{Rest, rest}
 
 -- The most terms of a part.
 abbrev pub part : ℕ
@@ -24,6 +26,10 @@ abbrev pub PartRead : List ℕ → ℕ → ℕ → ℕ → List ℕ → List ℕ
 PartRead nodes node skip n before after =
     (drop n after ≡ drop n before) × (length after ≡ length before)
     × ((used terms : ℕ) → NodeStore nodes terms used → Reaches nodes used node (skip + n) → take n after ≡ wanted terms (nodes_in nodes used) node skip n)
+
+-- Nothing is left of a piece, and no field waits.
+abbrev pub emptied : Piece → Rest
+emptied p = rest p.node p.skip 0 []
 
 -- ---- what was read of each node ----
 

@@ -88,6 +88,17 @@ module _ {store before list : List ℕ} {to k : ℕ} {after : List ℕ} {i : ℕ
             ∙ ap (write term_layout before to) (sym (ap (terms_at store) taken ∙ map-append (record_at term_layout store) (take i list) (p ∷ [])));
       }
 
+-- The same within one slice: the term that is read is as it was before.
+pub put_up : {before list : List ℕ} {to k : ℕ} {after : List ℕ} {i : ℕ} → Put before before list to k after i → Lies term_layout before (to + k)
+    → (p : ℕ) → p < to
+    → take term_layout.width (drop (p * term_layout.width) after) ≡ take term_layout.width (drop (p * term_layout.width) before)
+put_up {before} {list} {to} {k} {after} {i} so_far room p lt =
+    let width = term_layout.width in
+    let same : take (to * width) after ≡ take (to * width) before =
+    ap (take (to * width)) so_far.words ∙ write-below before to (terms_at before (take i list)) (omega arith) in
+    sym (part-below after (p * width) width (to * width) (omega arith)) ∙ ap (λ w. take width (drop (p * width) w)) same
+    ∙ part-below before (p * width) width (to * width) (omega arith)
+
 -- What the slice of the terms keeps.
 pub put_source : (T : List ℕ → List ℕ) (used base : ℕ) → Kept T used base → {before list : List ℕ} {to k : ℕ} {after : List ℕ} {i : ℕ}
     → Put (T before) before list to k after i → k ≤ length list → Lies term_layout before (to + k) → base ≤ to

@@ -1,17 +1,17 @@
 -- Laws of copying the terms of a node run by run, from one slice to another or to the end of the slice that they stand in.
 use Rattle.std.specs.Prelude.{◌≡◌, List, [], ◌++◌, T, length, take, drop, ℕ, ◌+◌, ◌*◌, ◌-◌, ◌/◌, ◌≤◌, ◌<◌}
-use Rattle.std.proofs.Common.{ap, ap₂, sym, ◌∙◌, append_assoc, length-drop, take-append-drop, take_at, take-take, length-take-le, arith}
+use Rattle.std.proofs.Common.{ap, ap₂, sym, ◌∙◌, zero-add, append_assoc, length-drop, take-append-drop, take_at, take-take, length-take-le, arith}
 use Rattle.std.proofs.lemmas.List.Edits.{sets, sets-eq}
 use Rattle.std.proofs.lemmas.List.{drop-append-le}
 use Rattle.term_spec.proofs.ListLaws.{drop-take, part-below, part_length}
 use Rattle.term_spec.specs.Term.{Term, Run, part, term_layout, limit}
-use Rattle.term_spec.specs.Words.{Lies, decode, count, encode, write}
+use Rattle.term_spec.specs.Words.{Lies, decode, records, count, encode, write}
 use Rattle.term_spec.proofs.WordsLaws.{term_lays, term-keeps, decode-length, decode-part, encode-decode, encode-length, write-length, write-append, write_none}
 use Rattle.view_spec.specs.Node.{meaning, nodes_rule, GoodNodes}
 use Rattle.view_spec.proofs.NodeLaws.{reach_limit, nodes-more}
 use Rattle.nodes.specs.NodeStore.{nodes_in, NodeStore, AnyStore, Reaches}
 use Rattle.places.specs.Rest.{Rest, rest, passed}
-use Rattle.rope.specs.Copies.{Kept}
+use Rattle.rope.specs.Copies.{CopiedOut, CopiedAfter, Kept}
 use Rattle.rope.specs.Pieces.{Goes, Front, front, terms as over-terms, Below}
 use Rattle.rope.specs.PiecesLaws.{Along, Next, along_again, along_long, along_run, along_short, along_next, front_some, along_on}
 
@@ -62,6 +62,16 @@ task_after few room store reaches = record {
   reaches = reaches;
   room = room;
 }
+
+-- So what is copied of a part is said of every node of a store over such a slice: from another slice, and within one.
+pub copied_out : {terms nodes : List ℕ} {node len : ℕ} (from to : ℕ) {before after : List ℕ} → Lies term_layout before len
+    → CopiedPart terms (count term_layout terms) nodes node len 0 from to before after → CopiedOut terms nodes node len from to before after
+unfolding records
+copied_out from to room copied used below reaches = rw zero-add at (copied used (task_out below reaches room))
+
+pub copied_after : {nodes : List ℕ} {used node len : ℕ} (from to : ℕ) {before after : List ℕ} → used ≤ limit → Lies term_layout before (used + len)
+    → CopiedPart before used nodes node len used from to before after → CopiedAfter nodes used node len from to before after
+copied_after from to few room copied nodes-used store reaches = copied nodes-used (task_after few room store reaches)
 
 -- The first `done` of them are there, and the others are still to be read.
 pub record Done (terms : List ℕ) (used : ℕ) (nodes : List ℕ) (nodes-used node len base : ℕ) (before : List ℕ) (at : Rest) (after : List ℕ) (done : ℕ)

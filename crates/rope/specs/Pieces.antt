@@ -14,6 +14,10 @@ steps = 8
 abbrev pub steps_alone : ℕ
 steps_alone = 4096
 
+-- The most fields on a stack.
+abbrev pub most_fields : ℕ
+most_fields = 32
+
 -- There is a term to read in some store of the words: what a function asks that does not read how many nodes are used.
 pub record ReadyIn (w : List ℕ) (r : Rest) : Type 0 where
   pub used : ℕ
@@ -43,10 +47,21 @@ pub record Front (ns : List Node) (i k : ℕ) : Type 0 where
   pub cons : (node_at ns i).kind ≡ cons_kind
   pub inner : k < (node_at ns i).b
 
+-- The same of a node of the words, in some store of them.
+pub record FrontIn (w : List ℕ) (i k : ℕ) : Type 0 where
+  pub used : ℕ
+  pub store : AnyStore w used
+  pub low : i < used
+  pub begins : Front (nodes_in w used) i k
+
 -- The piece t has the first terms of s, and begins with a run.
 pub record ToRun (ns : List Node) (s t : Rest) : Type 0 where
   pub goes : Goes ns s t
   pub begins : Front ns t.node t.skip
+
+-- The same in every store of the words where s is ready.
+abbrev pub ToRunIn : List ℕ → Rest → Rest → Type 0
+ToRunIn w s t = (used : ℕ) → AnyStore w used → Ready (nodes_in w used) s → ToRun (nodes_in w used) s t
 
 -- The run of at most m terms that begins there.
 unfoldable pub front : List Node → ℕ → ℕ → ℕ → Run

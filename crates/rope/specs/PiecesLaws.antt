@@ -14,7 +14,7 @@ use Rattle.nodes.specs.RuleLaws.{below_at}
 use Rattle.places.specs.Rest.{Rest, rest, field, gives, remain, Ready, passed}
 use Rattle.places.specs.RestLaws.{reach_length, step_on, step_in, step_split, cons-at, ready_short, ready_on, ready_concat, ready_in, ready_split}
 use Rattle.places.specs.RestLaws.{Comes, Passed, comes_most, comes_run, comes_passed}
-use Rattle.rope.specs.Pieces.{Starts, Goes, Front, front}
+use Rattle.rope.specs.Pieces.{Starts, Goes, Front, ToRunIn, RunIn, front}
 
 -- A beginning of a beginning.
 starts_more : {X : Type 0} (a b c : List X) → Starts a b → Starts b c → Starts a c
@@ -92,6 +92,10 @@ module _ (w : List ℕ) (used i k : ℕ) (low : i < used) {n : Node} (e : n ≡ 
   front_fits st v =
       let z = cons-at st.terms (nodes_in w used) i v.cons (node_at_lem st.terms (nodes_in w used) i st.store.good (rw decode-length low)) in
       rw front_is (omega (arith, z.inside-terms, st.few_terms), v.inner)
+
+-- The run that comes next, whichever it is: the piece goes on down to it.
+pub to_run_in : {w : List ℕ} {s t : Rest} {r : Run} → RunIn w s t r → ToRunIn w s t
+to_run_in next used store ready = (next used store ready).0
 
 -- ---- reading ----
 

@@ -1,15 +1,17 @@
 -- Laws of numbers: what is left of a text without its leading zeros, and when two numbers are equal.
-use Rattle.std.specs.Prelude.{◌≡◌, refl, List, [], ◌∷◌, ◌++◌, Bool, true, false, not, ◌&&◌, eqb, length, take, drop, replicate, ℕ, suc, zero, ◌+◌, ◌-◌, ◌<◌, ◌≤◌}
+use Rattle.std.specs.Prelude.{◌≡◌, refl, List, [], ◌∷◌, ◌++◌, Bool, true, false, not, ◌&&◌, eqb}
+use Rattle.std.specs.Prelude.{length, take, drop, get_or, replicate, ℕ, suc, zero, ◌+◌, ◌-◌, ◌<◌, ◌≤◌}
 use Rattle.std.specs.List.{list_all}
-use Rattle.std.proofs.Common.{ap, sym, ◌∙◌, eqb→eq, length-drop, arith}
+use Rattle.std.proofs.Common.{ap, sym, ◌∙◌, eqb→eq, take-take, drop-drop, length-drop, arith}
 use Rattle.std.proofs.lemmas.Bool.{false≢true}
 use borrow.Author.Tests.{ne_eqb}
 use Rattle.term_spec.proofs.BoolLaws.{true-T}
-use Rattle.term_spec.specs.Text.{every, zero_digit, is_zero, stripped}
+use Rattle.term_spec.specs.Text.{every, zero_digit, is_zero, stripped, text_at}
 use Rattle.term_spec.specs.Value.{num, canon}
 use Rattle.term_spec.proofs.ValueLaws.{is_no, alike}
+use Rattle.term_spec.proofs.ListLaws.{drop-take, part_length}
 use Rattle.text.specs.Texts.{texts_equal, numbers_equal}
-use Rattle.text.specs.TextLaws.{every_all, unfolded}
+use Rattle.text.specs.TextLaws.{text_first, every_all, unfolded}
 
 -- What is stripped of a text: nothing where its first digit is no zero, and a zero before other digits.
 stripped-digit : (c : ℕ) (l : List ℕ) → is_zero c ≡ false → stripped (c ∷ l) ≡ c ∷ l
@@ -106,6 +108,43 @@ numbers_longer d x y h k = is_no _ (λ q.
 numbers_zeros : (d : ℕ) (x y : List ℕ) → d < length x → every is_zero (take d x) ≡ true → numbers_equal x y ≡ numbers_equal (drop d x) y
 unfolding numbers_equal canon
 numbers_zeros d x y h k = rw (zeros-stripped d x h k)
+
+-- Two numbers in the names: of one length; and the first longer: the other empty, the surplus bytes not all zeros, the first byte none, all of them zeros.
+module _ (names : List ℕ) (o n p m : ℕ) (v : o + n ≤ length names) (w : p + m ≤ length names) where
+  pub numbers_same : n ≡ m → numbers_equal (text_at names o n) (text_at names p m) ≡ texts_equal false (text_at names o n) (text_at names p n)
+  numbers_same e =
+      numbers_alike _ _ (part_length names o n v ∙ e ∙ sym (part_length names p m w))
+      ∙ ap (λ k. texts_equal false (text_at names o n) (text_at names p k)) (sym e)
+
+  module _ (h : m < n) where
+    more : length (text_at names p m) + (n - m) ≡ length (text_at names o n)
+    more = let a = part_length names o n v in let b = part_length names p m w in omega arith
+
+    front : take (n - m) (text_at names o n) ≡ text_at names o (n - m)
+    front = take-take (n - m) n (drop o names) (omega arith)
+
+    back : drop (n - m) (text_at names o n) ≡ text_at names (o + (n - m)) m
+    back = let e : n - (n - m) ≡ m = omega arith in drop-take (n - m) n (drop o names) ∙ rw (e, drop-drop (n - m) o names) refl
+
+    pub numbers_empty : m ≡ 0 → numbers_equal (text_at names o n) (text_at names p m) ≡ false
+    numbers_empty e =
+        let a = part_length names o n v in
+        let b = part_length names p m w in
+        numbers_none (text_at names o n) (text_at names p m) (omega arith) (omega arith)
+
+    pub numbers_apart : every is_zero (text_at names o (n - m)) ≡ false → numbers_equal (text_at names o n) (text_at names p m) ≡ false
+    numbers_apart k = numbers_longer (n - m) _ _ more (ap (every is_zero) front ∙ k)
+
+    pub numbers_digit : (get_or names o 0 ≡ zero_digit → ⊥) → numbers_equal (text_at names o n) (text_at names p m) ≡ false
+    unfolding every
+    numbers_digit k = numbers_apart (rw (text_first names o (n - m) (omega arith) (omega arith), every, ne_eqb (get_or names o 0) zero_digit k) refl)
+
+    pub numbers_left : (m ≡ 0 → ⊥) → every is_zero (text_at names o (n - m)) ≡ true
+        → numbers_equal (text_at names o n) (text_at names p m) ≡ texts_equal false (text_at names (o + (n - m)) m) (text_at names p m)
+    numbers_left z k =
+        let a = part_length names o n v in
+        let long = part_length names (o + (n - m)) m (omega arith) ∙ sym (part_length names p m w) in
+        numbers_zeros (n - m) _ _ (omega arith) (ap (every is_zero) front ∙ k) ∙ ap (λ t. numbers_equal t (text_at names p m)) back ∙ numbers_alike _ _ long
 
 -- Of the longer of two, the surplus bytes are all zeros and the others are the other number, which is not empty.
 pub numbers_stripped :

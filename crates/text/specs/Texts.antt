@@ -1,8 +1,16 @@
 -- What the functions on texts answer, over the specification's tests.
 use Rattle.std.specs.Prelude.{List, map, Bool, true, false, ℕ, suc, zero}
 use Rattle.std.proofs.Math.Decide.{ℕ_discrete}
-use Rattle.term_spec.specs.Text.{identifier_text, number_text, variable_text, lower}
+use Rattle.term_spec.specs.Text.{spec_is_digit, spec_is_name_byte, every, identifier_text, number_text, variable_text, lower}
 use Rattle.term_spec.specs.Value.{ident, num, canon, list?, same?, is_yes}
+
+-- The test of one byte of a number or of a name, and of every byte of a text.
+unfoldable pub byte_test : Bool → ℕ → Bool
+byte_test true c = spec_is_digit c
+byte_test false c = spec_is_name_byte c
+
+unfoldable pub spelled : Bool → List ℕ → Bool
+spelled digits l = every (byte_test digits) l
 
 -- The kind of text that is a variable's name.
 abbrev pub name_text : ℕ

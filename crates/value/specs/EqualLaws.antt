@@ -122,6 +122,19 @@ module _ (names : List ℕ) (t u : Term) where
     pub symbols_chars : t.kind ≡ char_kind → t.a ≡ u.a → true ≡ spec_equal_symbols names t u
     symbols_chars z e = sym (symbols_other ∙ rw (eq-eqb t.a u.a e, eq-eqb t.kind char_kind z) refl)
 
+    module _ (n₀ : t.kind ≡ char_kind → ⊥) (e : t.a ≡ u.a) where
+      pub symbols_lower : (t.b ≡ u.b → ⊥) → false ≡ spec_equal_symbols names t u
+      symbols_lower n = sym (symbols_other ∙ rw (eq-eqb t.a u.a e, ne_eqb t.kind char_kind n₀, ne_eqb t.b u.b n) refl)
+
+      module _ (f : t.b ≡ u.b) where
+        pub symbols_indices : (t.c ≡ u.c → ⊥) → false ≡ spec_equal_symbols names t u
+        symbols_indices n =
+            sym (symbols_other ∙ rw (eq-eqb t.a u.a e, ne_eqb t.kind char_kind n₀, eq-eqb t.b u.b f, ne_eqb t.c u.c n) refl)
+
+        pub symbols_upper : t.c ≡ u.c → eqb t.d u.d ≡ spec_equal_symbols names t u
+        symbols_upper g =
+            sym (symbols_other ∙ rw (eq-eqb t.a u.a e, ne_eqb t.kind char_kind n₀, eq-eqb t.b u.b f, eq-eqb t.c u.c g) refl)
+
 -- Two lists with first entries: equal by these and the rest.
 heads_yes : {A : Type 0} {x y : A} {xs ys : List A} (d : Dec (x ≡ y)) (e : Dec (xs ≡ ys)) → is_yes (heads? d e) ≡ is_yes d && is_yes e
 unfolding heads? is_yes

@@ -2,7 +2,7 @@
 use Rattle.std.proofs.Common.{refl, arith}
 use Rattle.value.specs.EqualLaws.{texts_at, contents-below}
 use Rattle.numbers.specs.DigestLaws.{marked_below}
-use Rattle.numbers.proofs.TablesLaws.{key_room, key_here, searched_head, placed_found, placed_none, tables_found, tables_entered}
+use Rattle.numbers.proofs.TablesLaws.{key_low, key_here, searched_head, place_found, place_none, tables_found, tables_entered}
 use Rattle.numbers.proofs.number_of.Goals as goal
 
 pub bucket_of-b-requires-clause-readable : goal.bucket_of-b-requires-clause-readable
@@ -22,25 +22,25 @@ pub find_equal-found-requires : goal.find_equal-found-requires
 find_equal-found-requires c =
     let (used, asked) = c.requires.tables in
     let (inside, tables) = asked in
-    (used, _, (key_room tables c.bucket_of-b.ensures c.get-t.ensures, searched_head tables c.bucket_of-b.ensures c.get-t.ensures inside refl))
+    (used, _, (key_low tables c.bucket_of-b.ensures c.get-t.ensures, searched_head tables c.bucket_of-b.ensures c.get-t.ensures inside refl))
 
 pub enter-requires-clause-room : goal.enter-requires-clause-room
 enter-requires-clause-room c =
     let (used, asked) = c.requires.tables in
     let (inside, tables) = asked in
-    (key_room tables c.bucket_of-b.ensures c.get-t.ensures, omega (arith, tables.few))
+    (key_low tables c.bucket_of-b.ensures c.get-t.ensures, omega (arith, tables.few))
 
 pub returns-in-Some : goal.returns-in-Some
 returns-in-Some c =
     let (used, asked) = c.requires.tables in
     let (inside, tables) = asked in
     let head = searched_head tables c.bucket_of-b.ensures c.get-t.ensures inside refl in
-    let found = placed_found _ _ used _ _ _ (c.find_equal-found.ensures.1 used _ head) c.in-Some.is in (
+    let found = place_found _ _ used _ _ _ (c.find_equal-found.ensures.1 used _ head) c.in-Some.is in (
       omega (arith, found.low),
       omega (arith, c.find_equal-found.ensures.0, inside, tables.few),
       λ used inside tables.
           let head = searched_head tables c.bucket_of-b.ensures c.get-t.ensures inside refl in
-          tables_found tables inside (placed_found _ _ used _ _ _ (c.find_equal-found.ensures.1 used _ head) c.in-Some.is),
+          tables_found tables inside (place_found _ _ used _ _ _ (c.find_equal-found.ensures.1 used _ head) c.in-Some.is),
     )
 
 pub returns-in-None : goal.returns-in-None
@@ -51,7 +51,7 @@ returns-in-None c =
       omega (arith, c.find_equal-found.ensures.0, inside, tables.few),
       λ used inside tables.
           let head = searched_head tables c.bucket_of-b.ensures c.get-t.ensures inside refl in
-          let none = placed_none _ _ used _ _ _ (c.find_equal-found.ensures.1 used _ head) c.in-None.is in
+          let none = place_none _ _ used _ _ _ (c.find_equal-found.ensures.1 used _ head) c.in-None.is in
           rw (c.enter.ensures.0, c.enter.ensures.1)
           (tables_entered tables inside none _ (key_here tables c.bucket_of-b.ensures c.get-t.ensures)),
     )

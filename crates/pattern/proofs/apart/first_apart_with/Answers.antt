@@ -3,7 +3,7 @@ use Rattle.std.proofs.Common.{refl, arith}
 use borrow.Author.Tests.{not-true}
 use Rattle.pattern.specs.Apart.{none_repeats, one_repeats, given_up}
 use Rattle.pattern.specs.NameLaws.{binding_text}
-use Rattle.pattern.specs.ApartLaws.{told_yes, told_no, bucket_read, bucket_room, tables_passed, tables_entered, apart_next}
+use Rattle.pattern.specs.ApartLaws.{told_yes, told_no, bucket_read, bucket_low, tables_passed, tables_entered, apart_next}
 use Rattle.pattern.proofs.apart.first_apart_with.Goals.{then-k-lt-LIMIT, else-k-lt-LIMIT, then-not-way+else-k-cost, else-not-way}
 use Rattle.pattern.proofs.apart.first_apart_with.Goals as goal
 
@@ -31,7 +31,7 @@ returns-then-k-cost c = given_up (not-true _ c.if-not-way.true)
 pub enter-requires-clause-room : goal.enter-requires-clause-room
 enter-requires-clause-room c =
     let key = bucket_read _ _ _ _ c.get-b.ensures c.bucket_of-bucket.ensures in
-    (bucket_room c.loop-k.invariant.tables key, c.if-k-lt-LIMIT.true)
+    (bucket_low c.loop-k.invariant.tables key, c.if-k-lt-LIMIT.true)
 
 pub loop-k-preserved : goal.loop-k-preserved
 loop-k-preserved c =

@@ -3,11 +3,11 @@ use Rattle.std.proofs.Common.{arith}
 use Rattle.numbers.specs.ChainLaws.{sought_low, sought_less, sought_next, sought_none}
 use Rattle.pattern.specs.Apart.{it_is, it_is_not}
 use Rattle.pattern.specs.NameLaws.{binding_text}
-use Rattle.pattern.specs.ApartLaws.{bucket_room, name_head, name_low, name-same, name_other}
+use Rattle.pattern.specs.ApartLaws.{bucket_low, name_head, name_low, name-same, name_other}
 use Rattle.pattern.proofs.apart.name_apart.Goals as goal
 
 pub last-at-requires : goal.last-at-requires
-last-at-requires c = let (base, key, tables) = c.requires.tables in bucket_room tables key
+last-at-requires c = let (base, key, tables) = c.requires.tables in bucket_low tables key
 
 pub loop-at-init : goal.loop-at-init
 loop-at-init c =
