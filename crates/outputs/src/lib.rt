@@ -103,12 +103,18 @@ fn put_brought(m: Matched, count: &mut usize, entries: &mut usize) -> usize
         (result, count.new, entries.new) ≡ told }
 {
     match m {
-        Matched::Listed { count: c, entries: k } => {
+        Matched::Listed {
+            count: c,
+            entries: k,
+        } => {
             *count = c;
             *entries = k;
             0
         }
-        Matched::More { count: c, entries: k } => {
+        Matched::More {
+            count: c,
+            entries: k,
+        } => {
             *count = c;
             *entries = k;
             Refusal::MoreThanFit.number()

@@ -1,7 +1,33 @@
 -- Yes is 1 and no is 0; a refusal tells its number alone.
-use Rattle.std.proofs.Common.{Bool, true, false, Ok, Err, ◌≡◌, ℕ, refl}
+use Rattle.std.proofs.Common.{Bool, true, false, ◌≡◌, ℕ, refl}
 use Rattle.calls_spec.specs.Step.{answer_number}
 use Rattle.view_read.specs.Read.{verdict_of}
 use Rattle.equality.specs.Compare.{answer_of, found}
 use Rattle.outputs.specs.Outputs.{bit, values_of, or_old, truth_out, compared_out}
 use Rattle.outputs.proofs.put_truth.Goals as goal
+
+told_bit : (b : Bool) → mir.Val.bool_byte b ≡ bit b
+unfolding bit
+told_bit true = refl
+told_bit false = refl
+
+compared_bit : (b : Bool) (old : ℕ) → (0, bit b) ≡ compared_out (found b) old
+unfolding bit found compared_out
+compared_bit true old = refl
+compared_bit false old = refl
+
+pub returns-in-Ok-clause-fields : goal.returns-in-Ok-clause-fields
+unfolding verdict_of truth_out answer_number values_of or_old
+returns-in-Ok-clause-fields c = rw (c.in-Ok.is, c.from.ensures, told_bit c.in-Ok.b) refl
+
+pub returns-in-Ok-clause-runs : goal.returns-in-Ok-clause-runs
+unfolding answer_of
+returns-in-Ok-clause-runs c = rw (c.in-Ok.is, c.from.ensures, told_bit c.in-Ok.b) (compared_bit c.in-Ok.b _)
+
+pub returns-in-Err-clause-fields : goal.returns-in-Err-clause-fields
+unfolding verdict_of truth_out answer_number values_of or_old
+returns-in-Err-clause-fields c = rw (c.in-Err.is, c.number.ensures)
+
+pub returns-in-Err-clause-runs : goal.returns-in-Err-clause-runs
+unfolding answer_of compared_out
+returns-in-Err-clause-runs c = rw (c.in-Err.is, c.number.ensures)
