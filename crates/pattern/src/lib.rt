@@ -13,6 +13,7 @@ ghost use Rattle.items.specs.Records.{as_item, as_binding};
 ghost use Rattle.pattern.specs.Records.{bindings_in, numbers_of, variable, same_name, item_name, as_name, FoundAmong, first_names, table_at, BindingTexts, ItemTexts};
 ghost use Rattle.pattern.specs.Apart.{Told, EachRight, OneWrong};
 
+use arrayvec::ArrayVec;
 use items::{Binding, Item};
 
 // ---- the rule of a pattern (7 BadPattern) ----
@@ -247,14 +248,14 @@ pub fn bindings_ok(names: &[u8], bindings: &[u32]) -> bool
 
 // ---- the numbers of names ----
 
-// The place of a variable's name among those of the records that the first `count` of `firsts` number, if it is there.
-fn find_first(names: &[u8], pattern: &[u32], firsts: &[u32], count: usize, t: Item) -> Option<usize>
-    requires { (count ≤ length firsts.now) × (t.a + t.b ≤ length names.now) × ItemTexts names.now pattern.now firsts.now count }
+// The place of a variable's name among those of the records that `firsts` number, if it is there.
+fn find_first(names: &[u8], pattern: &[u32], firsts: &[usize], t: Item) -> Option<usize>
+    requires { (t.a + t.b ≤ length names.now) × ItemTexts names.now pattern.now firsts.now (length firsts.now) }
     ensures { let text = names.now in
-        FoundAmong (item_name text (as_item t)) (first_names text pattern.now (take count firsts.now)) count result }
+        FoundAmong (item_name text (as_item t)) (first_names text pattern.now firsts.now) (length firsts.now) result }
 {
-    for i in 0..count {
-        let u = words::get::<Item>(pattern, words::word(firsts, i));
+    for (i, first) in firsts.iter().enumerate() {
+        let u = words::get::<Item>(pattern, *first);
         if same_name(names, Name::of_item(t), Name::of_item(u)) {
             return Some(i);
         }
@@ -262,26 +263,28 @@ fn find_first(names: &[u8], pattern: &[u32], firsts: &[u32], count: usize, t: It
     None
 }
 
-// The place of a variable's name among the bindings' names and those of the records that `firsts` number; so many if it is not there.
+// The place of a variable's name among the bindings' names and then those of the records that `firsts` number, if it is there.
 fn find_name(
     names: &[u8],
     pattern: &[u32],
     bindings: &[u32],
-    firsts: &[u32],
-    new: usize,
+    firsts: &[usize],
     t: Item,
-) -> usize
-    requires known_firsts { (new ≤ length firsts.now) × (t.a + t.b ≤ length names.now) × ItemTexts names.now pattern.now firsts.now new }
-    requires known_bindings { (AtMost binding_layout bindings.now name_limit) × (new ≤ name_limit)
+) -> Option<usize>
+    requires known_firsts { (t.a + t.b ≤ length names.now) × ItemTexts names.now pattern.now firsts.now (length firsts.now) }
+    requires known_bindings { (AtMost binding_layout bindings.now name_limit) × (length firsts.now ≤ name_limit)
         × BindingTexts names.now bindings.now (count binding_layout bindings.now) }
     ensures { let text = names.now in
-        let table = table_at text pattern.now bindings.now (take new firsts.now) in
-        result ≡ find (item_name text (as_item t)) table }
+        let table = table_at text pattern.now bindings.now firsts.now in
+        FoundAmong (item_name text (as_item t)) table (count binding_layout bindings.now + length firsts.now) result }
 {
     let start = bindings.len() / items::BINDING_WIDTH;
-    match find_binding(names, bindings, start, Name::of_item(t)) {
-        Some(at) => at,
-        None => start + find_first(names, pattern, firsts, new, t).unwrap_or(new),
+    if let Some(at) = find_binding(names, bindings, start, Name::of_item(t)) {
+        return Some(at);
+    }
+    match find_first(names, pattern, firsts, t) {
+        Some(i) => Some(start + i),
+        None => None,
     }
 }
 
@@ -302,28 +305,22 @@ pub fn number_names(names: &[u8], pattern: &[u32], bindings: &[u32], numbers: &m
 {
     let n = pattern.len() / items::ITEM_WIDTH;
     let start = bindings.len() / items::BINDING_WIDTH;
-    let mut firsts: [u32; items::NAME_LIMIT] = [0; items::NAME_LIMIT];
-    let mut new: usize = 0;
-    let mut i = 0;
-    while i < n {
+    let mut firsts: ArrayVec<usize, { items::NAME_LIMIT }> = ArrayVec::new();
+    for i in 0..n {
         let t = words::get::<Item>(pattern, i);
         if !is_variable(t.kind) {
             words::set_word(numbers, i, 0);
-            i += 1;
             continue;
         }
-        let at = find_name(names, pattern, bindings, &firsts, new, t);
+        let found = find_name(names, pattern, bindings, firsts.as_slice(), t);
+        let at = found.unwrap_or(start + firsts.len());
         if items::NAME_LIMIT <= at {
             return TOO_MANY;
         }
         words::set_word(numbers, i, at);
-        if start + new <= at {
-            words::set_word(&mut firsts, new, i);
-            new += 1;
-            i += 1;
-            continue;
+        if found.is_none() {
+            firsts.push(i);
         }
-        i += 1;
     }
-    start + new
+    start + firsts.len()
 }
