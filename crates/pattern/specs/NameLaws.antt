@@ -1,5 +1,5 @@
 -- Laws of names: when two are one, and finding a name in a table from its start on.
-use Rattle.std.specs.Prelude.{◌≡◌, refl, Option, Some, None, is_some, unwrap_or, true, false, get_or, take, ℕ, suc, zero, ◌+◌, ◌<◌, ◌≤◌}
+use Rattle.std.specs.Prelude.{◌≡◌, refl, Option, Some, None, is_some, unwrap_or, true, false, get_or, ℕ, suc, zero, ◌+◌, ◌<◌, ◌≤◌}
 use Rattle.std.proofs.Math.Path.{ap, sym}
 use Rattle.std.proofs.Common.{◌∙◌}
 use mathlib.Core.List.{List, [], ◌∷◌, ◌++◌}

@@ -1,7 +1,7 @@
 -- Laws of numbering names: what the records from i on add to the table and to the numbers comes, after what is there, to the same as the whole.
 use Rattle.std.specs.Prelude.{◌≡◌, refl, List, [], ◌∷◌, ◌++◌, map, Bool, true, false, ◌&&◌, T, leb, ltb, eqb, get_or, set, take, drop, ℕ, suc, zero, ◌+◌, ◌<◌, ◌≤◌, min}
 use Rattle.std.proofs.Math.Path.{ap, sym}
-use Rattle.std.proofs.Common.{◌∙◌, append_assoc, append-nil, leb→le, length-set, length-append, take-suc-set, add-one, arith}
+use Rattle.std.proofs.Common.{◌∙◌, append_assoc, append-nil, leb→le, length-append, take-suc-set, add-one, arith}
 use Rattle.std.proofs.lemmas.List.{map-append}
 use Rattle.std.proofs.Math.ListN.{length, get_or-append}
 use Rattle.std.proofs.Math.Seq.{append_snoc, get_or-append_seam}

@@ -75,37 +75,27 @@ pub fn pattern_ok(names: &[u8], pattern: &[u32]) -> bool
     ensures { result ≡ pattern_rule names.now (records item_layout pattern.now) }
 {
     let n = pattern.len() / items::ITEM_WIDTH;
-    let mut opened: [u32; items::NESTING_LIMIT] = [0; items::NESTING_LIMIT];
-    let mut depth: usize = 0;
-    let mut i = 0;
-    while i < n {
+    let mut opened: ArrayVec<usize, { items::NESTING_LIMIT }> = ArrayVec::new();
+    for i in 0..n {
         let t = words::get::<Item>(pattern, i);
         if !item_ok(names, t) {
             return false;
         }
         if t.kind == items::OPEN {
-            if items::NESTING_LIMIT <= depth {
+            if opened.is_full() {
                 return false;
             }
-            words::set_word(&mut opened, depth, i);
-            depth += 1;
-            i += 1;
-            continue;
+            opened.push(i);
+        } else if t.kind == items::CLOSE {
+            let Some(o) = opened.pop() else {
+                return false;
+            };
+            if !closes(pattern, t.a, i, o) {
+                return false;
+            }
         }
-        if t.kind == items::CLOSE {
-            if depth == 0 {
-                return false;
-            }
-            depth -= 1;
-            if !closes(pattern, t.a, i, words::word(&opened, depth)) {
-                return false;
-            }
-            i += 1;
-            continue;
-        }
-        i += 1;
     }
-    depth == 0
+    opened.is_empty()
 }
 
 // ---- the rules of starting bindings (5 PastEnd and 8 BadBinding) ----

@@ -1,5 +1,4 @@
 -- What the records from i on add to the table and to the numbers comes to the same as the whole.
-use Rattle.std.proofs.Common.{◌≡◌, length}
 use Rattle.pattern.specs.NumberLaws.{Numbering}
 use Rattle.pattern.proofs.number_names.Given as goal
 
