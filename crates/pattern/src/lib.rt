@@ -4,7 +4,7 @@
 
 mod apart;
 
-ghost use Rattle.std.specs.Prelude.{◌≡◌, List, [], map, ◌&&◌, ℕ, ◌+◌, ◌<◌, ◌≤◌, min, T, eqb, length, take};
+ghost use Rattle.std.specs.Prelude.{◌≡◌, IfSome, IsSome, unwrap_or, List, [], map, ◌&&◌, ℕ, ◌+◌, ◌<◌, ◌≤◌, min, T, eqb, length, take};
 ghost use Rattle.term_spec.specs.Words.{Lies, AtMost, record_at, decode, records, count};
 ghost use Rattle.term_spec.specs.Term.{runs_rule};
 ghost use Rattle.match_spec.specs.Pattern.{item_layout, call_kind, pattern_limit, name_limit, elements, item_rule_k, pattern_rule};
@@ -278,20 +278,25 @@ fn find_name(
     }
 }
 
-// What stands for more names than there may be.
-const TOO_MANY: usize = items::NAME_LIMIT + 1;
-
 // Numbers each variable of the pattern: the start's names first, then first occurrence; other records get 0. Hands back how many names there
-// are, 65 if they are over 64 (then the numbers mean nothing). `firsts` has the numbers of the records that brought the new names.
-pub fn number_names(names: &[u8], pattern: &[u32], bindings: &[u32], numbers: &mut [u32]) -> usize
+// are, if they are at most 64 (otherwise the numbers mean nothing). `firsts` has the numbers of the records that brought the new names.
+pub fn number_names(
+    names: &[u8],
+    pattern: &[u32],
+    bindings: &[u32],
+    numbers: &mut [u32],
+) -> Option<usize>
     requires room { (AtMost item_layout pattern.now pattern_limit) × (AtMost binding_layout bindings.now name_limit)
         × (pattern_limit ≤ length numbers.old) }
     requires rules { T (pattern_rule names.now (records item_layout pattern.now))
         × T (bindings_rule names.now (records binding_layout bindings.now) []) }
-    ensures { let parts = elements names.now (records item_layout pattern.now) in
+    ensures counted { let parts = elements names.now (records item_layout pattern.now) in
         let start = binding_names names.now (records binding_layout bindings.now) in
-        (result ≡ min (name_limit + 1) (length (names_after parts start)))
-        × (result ≤ name_limit → take (count item_layout pattern.now) numbers.new ≡ numbers_of parts start) }
+        unwrap_or result (name_limit + 1) ≡ min (name_limit + 1) (length (names_after parts start)) }
+    ensures few { IfSome result (λ n. n ≤ name_limit) }
+    ensures numbers { let parts = elements names.now (records item_layout pattern.now) in
+        let start = binding_names names.now (records binding_layout bindings.now) in
+        IsSome result → take (count item_layout pattern.now) numbers.new ≡ numbers_of parts start }
 {
     let n = pattern.len() / items::ITEM_WIDTH;
     let start = bindings.len() / items::BINDING_WIDTH;
@@ -305,12 +310,12 @@ pub fn number_names(names: &[u8], pattern: &[u32], bindings: &[u32], numbers: &m
         let found = find_name(names, pattern, bindings, firsts.as_slice(), t);
         let at = found.unwrap_or(start + firsts.len());
         if items::NAME_LIMIT <= at {
-            return TOO_MANY;
+            return None;
         }
         words::set_word(numbers, i, at);
         if found.is_none() {
             firsts.push(i);
         }
     }
-    start + firsts.len()
+    Some(start + firsts.len())
 }

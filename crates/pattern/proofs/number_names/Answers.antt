@@ -1,9 +1,10 @@
 -- A record that is no variable's gets 0; a variable's gets its name's place, and a new name goes to the end of the table.
-use Rattle.std.proofs.Common.{true, not, length, ◌+◌, ap, sym, ◌∙◌, arith}
+use Rattle.std.proofs.Common.{true, not, length, ◌+◌, refl, ap, sym, ◌∙◌, arith}
 use Rattle.items.specs.Records.{as_item}
 use Rattle.pattern.specs.Records.{bindings_in}
 use Rattle.pattern.specs.BindingLaws.{texts_of}
 use Rattle.term_spec.specs.Words.{count}
+use Rattle.numbers.specs.NumbersLaws.{never}
 use Rattle.pattern.specs.NameLaws.{found_inside, found_outside}
 use Rattle.pattern.specs.NumberLaws.{Here, numbering_start, item_text, names_all, numbers_all, plain, too_many, known, met}
 use Rattle.pattern.proofs.number_names.Goals.{then-is_none, else-is_none}
@@ -48,7 +49,7 @@ returns-then-at-ge-NAME_LIMIT c =
     } in
     let found = rw c.as_slice.ensures.value at c.find_name-found.ensures in
     let placed = rw c.len.ensures.value at c.unwrap_or-at.ensures in
-    (too_many here (placed ∙ found.0) c.if-at-ge-NAME_LIMIT.true, λ l. absurd (omega arith))
+    record { counted = too_many here (placed ∙ found.0) c.if-at-ge-NAME_LIMIT.true; few = tt; numbers = λ some. never some refl }
 
 pub loop-i-preserved : goal.loop-i-preserved
 unfolding count
@@ -78,4 +79,9 @@ loop-i-preserved c =
 pub returns : goal.returns
 returns c =
     let ended = c.loop-i-test.false in
-    rw c.len-2.ensures.value (names_all c.loop-i.invariant ended, λ l. numbers_all c.loop-i.invariant ended)
+    rw c.len-2.ensures.value
+    (record {
+      counted = names_all c.loop-i.invariant ended;
+      few = c.loop-i.invariant.few;
+      numbers = λ _. numbers_all c.loop-i.invariant ended;
+    })
