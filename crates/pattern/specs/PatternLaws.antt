@@ -1,7 +1,7 @@
 -- Laws of a pattern's rule: a record by its kind, and what is left of the records comes to the same as the whole.
 use Rattle.std.specs.Prelude.{◌≡◌, List, [], ◌∷◌, ◌++◌, reverse, Bool, true, false, ◌&&◌, ltb, leb, length, get_or, drop}
 use Rattle.std.proofs.Math.Path.{refl, ap}
-use Rattle.std.proofs.Common.{◌∙◌, lt-ltb, le-ltb, le-leb, eq-eqb, ne_eqb, sym, length-append, add-one}
+use Rattle.std.proofs.Common.{◌∙◌, lt-ltb, le-ltb, le-leb, ne_eqb, sym, length-append, add-one}
 use Rattle.std.proofs.lemmas.List.{length-reverse, reverse-append}
 use Rattle.std.proofs.Math.ListN.{get_or-append}
 use Rattle.std.proofs.Math.Seq.{get_or-append_seam}
@@ -83,14 +83,6 @@ module _ (names : List ℕ) (t : Item) where
   pub item_none : (k : ℕ) → block_kind < k → item_rule_k k names t ≡ false
   unfolding item_rule_k
   item_none k h = let e : k ≡ suc (suc (suc (suc (suc (suc (suc (suc (suc (suc (k - 10)))))))))) = omega arith in rw e refl
-
--- ---- the two numbers of a pair of brackets ----
-
-pub numbers_apart : (w : List ℕ) (a i o : ℕ) → (a ≡ o → ⊥) → false ≡ (eqb a o && eqb (record_at item_layout w o).a i)
-numbers_apart w a i o n = simp (ne_eqb a o n)
-
-pub numbers_meet : (w : List ℕ) (a i o : ℕ) {t : Item} → a ≡ o → t ≡ record_at item_layout w o → eqb t.a i ≡ (eqb a o && eqb (record_at item_layout w o).a i)
-numbers_meet w a i o e q = rw (eq-eqb a o e, ← q) refl
 
 -- ---- how a record changes the brackets open before it ----
 
@@ -175,7 +167,9 @@ module _ {names w opened : List ℕ} {i : ℕ} where
           past = omega (arith, good.more);
           few = rw q (omega (arith, longer));
           below = λ j lj. rw q (go j (rw q at lj) (ℕ_discrete j (length opened)));
-          rest = rw (q, reverse-append opened (i ∷ []), add-one i) (rw (nest_open _ _ _ _ _ _ k, length-reverse opened, lt-ltb (length opened) nesting_limit h, add-one i) at nested);
+          rest =
+              rw (q, reverse-append opened (i ∷ []), add-one i)
+              (rw (nest_open _ _ _ _ _ _ k, length-reverse opened, lt-ltb (length opened) nesting_limit h, add-one i) at nested);
         }
       where
         go : (j : ℕ) → j < length (opened ++ (i ∷ [])) → Dec (j ≡ length opened) → get_or (opened ++ (i ∷ [])) j 0 < i + 1

@@ -8,9 +8,10 @@ ghost use Rattle.std.specs.Prelude.{◌≡◌, IfSome, IsSome, unwrap_or, List, 
 ghost use Rattle.term_spec.specs.Words.{Lies, AtMost, record_at, decode, records, count};
 ghost use Rattle.term_spec.specs.Term.{runs_rule};
 ghost use Rattle.match_spec.specs.Pattern.{item_layout, call_kind, pattern_limit, name_limit, elements, item_rule_k, pattern_rule};
-ghost use Rattle.match_spec.specs.Pattern.{binding_layout, bound_run, binding_names, names_after, name_at, find, binding_rule, bindings_rule};
+ghost use Rattle.match_spec.specs.Pattern.{binding_layout, bound_run, binding_names, names_after, binding_rule, bindings_rule};
 ghost use Rattle.items.specs.Records.{as_item, as_binding};
-ghost use Rattle.pattern.specs.Records.{bindings_in, numbers_of, variable, same_name, item_name, as_name, FoundAmong, first_names, table_at, BindingTexts, ItemTexts};
+ghost use Rattle.pattern.specs.Records.{bindings_in, numbers_of, variable, same_name, item_name, as_name, FoundAmong, first_names, table_at};
+ghost use Rattle.pattern.specs.Records.{BindingTexts, ItemTexts};
 ghost use Rattle.pattern.specs.Apart.{Told, EachRight, OneWrong};
 
 use arrayvec::ArrayVec;
@@ -62,11 +63,7 @@ fn closes(pattern: &[u32], a: usize, i: usize, o: usize) -> bool
     requires { Lies item_layout pattern.now (o + 1) }
     ensures { result ≡ (eqb a o && eqb (record_at item_layout pattern.now o).a i) }
 {
-    if a != o {
-        return false;
-    }
-    let t = words::get::<Item>(pattern, o);
-    t.a == i
+    a == o && words::get::<Item>(pattern, o).a == i
 }
 
 // The rule of a pattern of at most 256 records. `opened` has the numbers of the brackets open before record i, innermost last.
