@@ -1,5 +1,5 @@
 -- `name_count`: one law for each exit.
-use Rattle.std.specs.Prelude.{◌≡◌, List, [], Bool, true, false, length, ℕ, ◌≤◌, ◌<◌, min}
+use Rattle.std.specs.Prelude.{◌≡◌, Option, Some, None, IfSome, unwrap_or, List, [], Bool, true, false, length, ℕ, ◌≤◌, ◌<◌, min}
 use Rattle.std.proofs.Common.{sym, ap, ◌∙◌, le-leb, arith}
 use Rattle.std.proofs.lemmas.Bool.{lt-leb}
 use Rattle.term_spec.specs.Words.{records}
@@ -46,3 +46,10 @@ count_few names p b n h i j e k =
     let r : names_rule names p b ≡ true = simp (h, i, j, le-leb (names_of names p b) name_limit (omega arith)) in
     let m : n ≡ names_of names p b = omega arith in
     m ∙ ap (λ (x : Bool). elim x [ true ↦ names_of names p b | false ↦ 0 ]) (sym r)
+
+-- What numbering the names told, if they are at most 64: they are counted, and 0 stands for more.
+pub count_told : (names p b : List ℕ) → even_words p b ≡ true → pattern_rule names (records item_layout p) ≡ true
+    → bindings_rule names (records binding_layout b) [] ≡ true → (found : Option ℕ) → unwrap_or found 65 ≡ min 65 (names_of names p b)
+    → IfSome found (λ n. n ≤ name_limit) → unwrap_or found 0 ≡ spec_name_count names p b
+count_told names p b h i j (Some n) e k = count_few names p b n h i j e k
+count_told names p b h i j None e k = count_many names p b h i j (omega arith)

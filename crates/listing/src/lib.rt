@@ -93,11 +93,7 @@ pub fn name_count(names: &[u8], pattern: &[u32], bindings: &[u32]) -> usize
         return 0;
     }
     let mut numbers = [0u32; items::PATTERN_LIMIT];
-    let found = pattern::number_names(names, pattern, bindings, &mut numbers);
-    if items::NAME_LIMIT < found {
-        return 0;
-    }
-    found
+    pattern::number_names(names, pattern, bindings, &mut numbers).unwrap_or(0)
 }
 
 // The slots that fit whole; with no names there is one, of no words.
@@ -168,10 +164,9 @@ fn list(
         return Err(Refusal::TooManyNames);
     }
     let mut numbers = [0u32; items::PATTERN_LIMIT];
-    let entries = pattern::number_names(names, pattern, bindings, &mut numbers);
-    if items::NAME_LIMIT < entries {
+    let Some(entries) = pattern::number_names(names, pattern, bindings, &mut numbers) else {
         return Err(Refusal::TooManyNames);
-    }
+    };
     let run = view_read::settle(terms, terms_used, nodes, f)?;
     let cap = slots_in(slots.len(), entries);
     let g = Goal { entries, cap, head };

@@ -190,15 +190,11 @@ fn variables(pattern: &[u32]) -> usize
 {
     let n = pattern.len() / items::ITEM_WIDTH;
     let mut count = 0;
-    let mut i = 0;
-    while i < n {
+    for i in 0..n {
         let t = words::get::<Item>(pattern, i);
         if pattern::is_variable(t.kind) {
             count += 1;
-            i += 1;
-            continue;
         }
-        i += 1;
     }
     count
 }

@@ -1,7 +1,7 @@
 -- Laws of names: when two are one, and finding a name in a table from its start on.
-use Rattle.std.specs.Prelude.{◌≡◌, refl, true, false, get_or, take, ℕ, suc, zero, ◌+◌, ◌<◌, ◌≤◌}
+use Rattle.std.specs.Prelude.{◌≡◌, refl, Option, Some, None, is_some, unwrap_or, true, false, get_or, ℕ, suc, zero, ◌+◌, ◌<◌, ◌≤◌}
 use Rattle.std.proofs.Math.Path.{ap, sym}
-use Rattle.std.proofs.Common.{◌∙◌, get_or-take, length-take-le}
+use Rattle.std.proofs.Common.{◌∙◌}
 use mathlib.Core.List.{List, [], ◌∷◌, ◌++◌}
 use Rattle.std.proofs.Math.ListN.{length, drop, get_or-map}
 use Rattle.std.proofs.lemmas.List.{length-map}
@@ -16,8 +16,9 @@ use Rattle.term_spec.proofs.ValueLaws.{is_no, alike}
 use Rattle.text.specs.Texts.{identifiers_equal}
 use Rattle.match_spec.specs.Pattern.{Item, item_layout, Binding, binding_layout, Name, name_at, name?, find_here, find, binding_name, binding_names}
 use Rattle.match_spec.proofs.NameLaws.{find_le, find-kept}
+use Rattle.numbers.specs.NumbersLaws.{never}
 use Rattle.pattern.specs.Apart.{name_in}
-use Rattle.pattern.specs.Records.{bindings_in, same_name, item_name, first_names, table_at, BindingTexts, ItemTexts}
+use Rattle.pattern.specs.Records.{bindings_in, same_name, FoundAmong, item_name, first_names, table_at, BindingTexts, ItemTexts}
 
 -- ---- when two names are one ----
 
@@ -98,6 +99,17 @@ find_past x (y ∷ t) u e = go (name? x y) (find_past x t u) e
     go (yes q) ih k = absurd (omega arith)
     go (no q) ih k = omega (arith, ih (omega arith))
 
+-- ---- what the code finds ----
+
+-- The place that is found is in the table, and what stands for none is past it.
+pub found_inside : (x : Name) (t : List Name) (n : ℕ) (place : Option ℕ) → FoundAmong x t n place → is_some place ≡ true → unwrap_or place n < n
+found_inside x t n (Some i) h e = h.1
+found_inside x t n None h e = never e refl
+
+pub found_outside : (n : ℕ) (place : Option ℕ) → is_some place ≡ false → n ≤ unwrap_or place n
+found_outside n (Some i) e = never refl e
+found_outside n None e = omega arith
+
 -- ---- the names of bindings ----
 
 module _ (names w : List ℕ) where
@@ -120,18 +132,13 @@ module _ (names w : List ℕ) where
 
 -- ---- the names of numbered records ----
 
-module _ (names w firsts : List ℕ) (n : ℕ) (fits : n ≤ length firsts) where
-  pub firsts_length : length (first_names names w (take n firsts)) ≡ n
-  firsts_length = length-map (take n firsts) _ ∙ length-take-le n firsts fits
+module _ (names w firsts : List ℕ) where
+  pub firsts_length : length (first_names names w firsts) ≡ length firsts
+  firsts_length = length-map firsts _
 
-  pub firsts_few : (x : Name) {k : ℕ} → k ≡ find x (first_names names w (take n firsts)) → k ≤ n
-  firsts_few x e = omega (arith, find_le x (first_names names w (take n firsts)), firsts_length)
-
-  pub first_next : (i : ℕ) {j : ℕ} {t : Item} → i < n → j ≡ get_or firsts i 0 → t ≡ record_at item_layout w j
-      → drop i (first_names names w (take n firsts)) ≡ item_name names t ∷ drop (i + 1) (first_names names w (take n firsts))
-  first_next i {j} h e q =
-      map_next _ (take n firsts) i {y = get_or (take n firsts) i 0} (entry_next (take n firsts) i 0 (rw (length-take-le n firsts fits) h))
-      ∙ rw (get_or-take n firsts i 0 h, ← e, ← q) refl
+  pub first_next : (i : ℕ) {j : ℕ} {t : Item} → i < length firsts → j ≡ get_or firsts i 0 → t ≡ record_at item_layout w j
+      → drop i (first_names names w firsts) ≡ item_name names t ∷ drop (i + 1) (first_names names w firsts)
+  first_next i {j} h e q = map_next _ firsts i {y = get_or firsts i 0} (entry_next firsts i 0 h) ∙ rw (← e, ← q) refl
 
 module _ (names w firsts : List ℕ) (n i : ℕ) {j : ℕ} (h : ItemTexts names w firsts n) (lt : i < n) (e : j ≡ get_or firsts i 0) where
   pub first-inside : Lies item_layout w (j + 1)

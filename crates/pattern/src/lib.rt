@@ -4,15 +4,17 @@
 
 mod apart;
 
-ghost use Rattle.std.specs.Prelude.{◌≡◌, List, [], map, ◌&&◌, ℕ, ◌+◌, ◌<◌, ◌≤◌, min, T, eqb, length, take};
+ghost use Rattle.std.specs.Prelude.{◌≡◌, IfSome, IsSome, unwrap_or, List, [], map, ◌&&◌, ℕ, ◌+◌, ◌<◌, ◌≤◌, min, T, eqb, length, take};
 ghost use Rattle.term_spec.specs.Words.{Lies, AtMost, record_at, decode, records, count};
 ghost use Rattle.term_spec.specs.Term.{runs_rule};
 ghost use Rattle.match_spec.specs.Pattern.{item_layout, call_kind, pattern_limit, name_limit, elements, item_rule_k, pattern_rule};
-ghost use Rattle.match_spec.specs.Pattern.{binding_layout, bound_run, binding_names, names_after, name_at, find, binding_rule, bindings_rule};
+ghost use Rattle.match_spec.specs.Pattern.{binding_layout, bound_run, binding_names, names_after, binding_rule, bindings_rule};
 ghost use Rattle.items.specs.Records.{as_item, as_binding};
-ghost use Rattle.pattern.specs.Records.{bindings_in, numbers_of, variable, same_name, item_name, as_name, FoundAmong, first_names, table_at, BindingTexts, ItemTexts};
+ghost use Rattle.pattern.specs.Records.{bindings_in, numbers_of, variable, same_name, item_name, as_name, FoundAmong, first_names, table_at};
+ghost use Rattle.pattern.specs.Records.{BindingTexts, ItemTexts};
 ghost use Rattle.pattern.specs.Apart.{Told, EachRight, OneWrong};
 
+use arrayvec::ArrayVec;
 use items::{Binding, Item};
 
 // ---- the rule of a pattern (7 BadPattern) ----
@@ -61,11 +63,7 @@ fn closes(pattern: &[u32], a: usize, i: usize, o: usize) -> bool
     requires { Lies item_layout pattern.now (o + 1) }
     ensures { result ≡ (eqb a o && eqb (record_at item_layout pattern.now o).a i) }
 {
-    if a != o {
-        return false;
-    }
-    let t = words::get::<Item>(pattern, o);
-    t.a == i
+    a == o && words::get::<Item>(pattern, o).a == i
 }
 
 // The rule of a pattern of at most 256 records. `opened` has the numbers of the brackets open before record i, innermost last.
@@ -74,37 +72,27 @@ pub fn pattern_ok(names: &[u8], pattern: &[u32]) -> bool
     ensures { result ≡ pattern_rule names.now (records item_layout pattern.now) }
 {
     let n = pattern.len() / items::ITEM_WIDTH;
-    let mut opened: [u32; items::NESTING_LIMIT] = [0; items::NESTING_LIMIT];
-    let mut depth: usize = 0;
-    let mut i = 0;
-    while i < n {
+    let mut opened: ArrayVec<usize, { items::NESTING_LIMIT }> = ArrayVec::new();
+    for i in 0..n {
         let t = words::get::<Item>(pattern, i);
         if !item_ok(names, t) {
             return false;
         }
         if t.kind == items::OPEN {
-            if items::NESTING_LIMIT <= depth {
+            if opened.is_full() {
                 return false;
             }
-            words::set_word(&mut opened, depth, i);
-            depth += 1;
-            i += 1;
-            continue;
+            opened.push(i);
+        } else if t.kind == items::CLOSE {
+            let Some(o) = opened.pop() else {
+                return false;
+            };
+            if !closes(pattern, t.a, i, o) {
+                return false;
+            }
         }
-        if t.kind == items::CLOSE {
-            if depth == 0 {
-                return false;
-            }
-            depth -= 1;
-            if !closes(pattern, t.a, i, words::word(&opened, depth)) {
-                return false;
-            }
-            i += 1;
-            continue;
-        }
-        i += 1;
     }
-    depth == 0
+    opened.is_empty()
 }
 
 // ---- the rules of starting bindings (5 PastEnd and 8 BadBinding) ----
@@ -251,14 +239,14 @@ pub fn bindings_ok(names: &[u8], bindings: &[u32]) -> bool
 
 // ---- the numbers of names ----
 
-// The place of a variable's name among those of the records that the first `count` of `firsts` number, if it is there.
-fn find_first(names: &[u8], pattern: &[u32], firsts: &[u32], count: usize, t: Item) -> Option<usize>
-    requires { (count ≤ length firsts.now) × (t.a + t.b ≤ length names.now) × ItemTexts names.now pattern.now firsts.now count }
+// The place of a variable's name among those of the records that `firsts` number, if it is there.
+fn find_first(names: &[u8], pattern: &[u32], firsts: &[usize], t: Item) -> Option<usize>
+    requires { (t.a + t.b ≤ length names.now) × ItemTexts names.now pattern.now firsts.now (length firsts.now) }
     ensures { let text = names.now in
-        FoundAmong (item_name text (as_item t)) (first_names text pattern.now (take count firsts.now)) count result }
+        FoundAmong (item_name text (as_item t)) (first_names text pattern.now firsts.now) (length firsts.now) result }
 {
-    for i in 0..count {
-        let u = words::get::<Item>(pattern, words::word(firsts, i));
+    for (i, first) in firsts.iter().enumerate() {
+        let u = words::get::<Item>(pattern, *first);
         if same_name(names, Name::of_item(t), Name::of_item(u)) {
             return Some(i);
         }
@@ -266,68 +254,69 @@ fn find_first(names: &[u8], pattern: &[u32], firsts: &[u32], count: usize, t: It
     None
 }
 
-// The place of a variable's name among the bindings' names and those of the records that `firsts` number; so many if it is not there.
+// The place of a variable's name among the bindings' names and then those of the records that `firsts` number, if it is there.
 fn find_name(
     names: &[u8],
     pattern: &[u32],
     bindings: &[u32],
-    firsts: &[u32],
-    new: usize,
+    firsts: &[usize],
     t: Item,
-) -> usize
-    requires known_firsts { (new ≤ length firsts.now) × (t.a + t.b ≤ length names.now) × ItemTexts names.now pattern.now firsts.now new }
-    requires known_bindings { (AtMost binding_layout bindings.now name_limit) × (new ≤ name_limit)
+) -> Option<usize>
+    requires known_firsts { (t.a + t.b ≤ length names.now) × ItemTexts names.now pattern.now firsts.now (length firsts.now) }
+    requires known_bindings { (AtMost binding_layout bindings.now name_limit) × (length firsts.now ≤ name_limit)
         × BindingTexts names.now bindings.now (count binding_layout bindings.now) }
     ensures { let text = names.now in
-        let table = table_at text pattern.now bindings.now (take new firsts.now) in
-        result ≡ find (item_name text (as_item t)) table }
+        let table = table_at text pattern.now bindings.now firsts.now in
+        FoundAmong (item_name text (as_item t)) table (count binding_layout bindings.now + length firsts.now) result }
 {
     let start = bindings.len() / items::BINDING_WIDTH;
-    match find_binding(names, bindings, start, Name::of_item(t)) {
-        Some(at) => at,
-        None => start + find_first(names, pattern, firsts, new, t).unwrap_or(new),
+    if let Some(at) = find_binding(names, bindings, start, Name::of_item(t)) {
+        return Some(at);
+    }
+    match find_first(names, pattern, firsts, t) {
+        Some(i) => Some(start + i),
+        None => None,
     }
 }
 
-// What stands for more names than there may be.
-const TOO_MANY: usize = items::NAME_LIMIT + 1;
-
 // Numbers each variable of the pattern: the start's names first, then first occurrence; other records get 0. Hands back how many names there
-// are, 65 if they are over 64 (then the numbers mean nothing). `firsts` has the numbers of the records that brought the new names.
-pub fn number_names(names: &[u8], pattern: &[u32], bindings: &[u32], numbers: &mut [u32]) -> usize
+// are, if they are at most 64 (otherwise the numbers mean nothing). `firsts` has the numbers of the records that brought the new names.
+pub fn number_names(
+    names: &[u8],
+    pattern: &[u32],
+    bindings: &[u32],
+    numbers: &mut [u32],
+) -> Option<usize>
     requires room { (AtMost item_layout pattern.now pattern_limit) × (AtMost binding_layout bindings.now name_limit)
         × (pattern_limit ≤ length numbers.old) }
     requires rules { T (pattern_rule names.now (records item_layout pattern.now))
         × T (bindings_rule names.now (records binding_layout bindings.now) []) }
-    ensures { let parts = elements names.now (records item_layout pattern.now) in
+    ensures counted { let parts = elements names.now (records item_layout pattern.now) in
         let start = binding_names names.now (records binding_layout bindings.now) in
-        (result ≡ min (name_limit + 1) (length (names_after parts start)))
-        × (result ≤ name_limit → take (count item_layout pattern.now) numbers.new ≡ numbers_of parts start) }
+        unwrap_or result (name_limit + 1) ≡ min (name_limit + 1) (length (names_after parts start)) }
+    ensures few { IfSome result (λ n. n ≤ name_limit) }
+    ensures numbers { let parts = elements names.now (records item_layout pattern.now) in
+        let start = binding_names names.now (records binding_layout bindings.now) in
+        IsSome result → take (count item_layout pattern.now) numbers.new ≡ numbers_of parts start }
 {
     let n = pattern.len() / items::ITEM_WIDTH;
     let start = bindings.len() / items::BINDING_WIDTH;
-    let mut firsts: [u32; items::NAME_LIMIT] = [0; items::NAME_LIMIT];
-    let mut new: usize = 0;
-    let mut i = 0;
-    while i < n {
+    let mut firsts: ArrayVec<usize, { items::NAME_LIMIT }> = ArrayVec::new();
+    for i in 0..n {
         let t = words::get::<Item>(pattern, i);
         if !is_variable(t.kind) {
             words::set_word(numbers, i, 0);
-            i += 1;
             continue;
         }
-        let at = find_name(names, pattern, bindings, &firsts, new, t);
+        let found = find_name(names, pattern, bindings, firsts.as_slice(), t);
+        let at = found.unwrap_or(start + firsts.len());
         if items::NAME_LIMIT <= at {
-            return TOO_MANY;
+            return None;
         }
         words::set_word(numbers, i, at);
-        if start + new <= at {
-            words::set_word(&mut firsts, new, i);
-            new += 1;
-            i += 1;
-            continue;
+        if found.is_none() {
+            firsts.push(i);
         }
-        i += 1;
     }
-    start + new
+    Some(start + firsts.len())
 }

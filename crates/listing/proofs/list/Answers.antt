@@ -1,7 +1,7 @@
 -- One law of the step for each exit; what the walk asks is what the checks let pass and what settling left.
-use Rattle.std.proofs.Common.{ℕ, refl, ap, arith}
+use Rattle.std.proofs.Common.{ℕ, refl, ap, arith, rules}
+use Rattle.std.proofs.lemmas.List.{length-replicate}
 use Rattle.std.proofs.lemmas.Result.{err_from_is_err_and}
-use lib.ListN.{length-replicate}
 use Rattle.words.specs.Refusals.{told_number, spec_number}
 use Rattle.words.proofs.RefusalLaws.{number_some}
 use Rattle.view.specs.Check.{as_field}
@@ -21,16 +21,16 @@ pub returns-then-bindings-gt-NAME_LIMIT : goal.returns-then-bindings-gt-NAME_LIM
 unfolding matched_of told_number spec_number
 returns-then-bindings-gt-NAME_LIMIT c = exit_start _ _ _ c.in_ok-check_request.ensures refl c.if-bindings-gt-NAME_LIMIT.true
 
-pub number_names-entries-requires : goal.number_names-entries-requires
+pub number_names-requires : goal.number_names-requires
 unfolding told_number
-number_names-entries-requires c =
+number_names-requires c =
     let y = within_8 _ _ _ _ c.in_ok-check_request.ensures refl in
     record { room = (y.short, omega arith, omega arith); rules = (y.pattern, y.bindings) }
 
-pub returns-then-entries-gt-NAME_LIMIT : goal.returns-then-entries-gt-NAME_LIMIT
+pub returns-in_default : goal.returns-in_default
 unfolding matched_of told_number spec_number
-returns-then-entries-gt-NAME_LIMIT c =
-    exit_names _ _ _ c.in_ok-check_request.ensures refl c.number_names-entries.ensures.0 c.if-entries-gt-NAME_LIMIT.true
+returns-in_default c =
+    exit_names _ _ _ c.in_ok-check_request.ensures refl (rw c.in_default.is at c.number_names.ensures.counted) (omega arith)
 
 pub settle-requires : goal.settle-requires
 unfolding told_number
@@ -43,8 +43,10 @@ unfolding matched_of settled_of told_number
 returns-in_err-run c =
     let p = err_from_is_err_and c.from_residual-in_err-run.result c.from_residual-in_err-run.ensures.1 in
     let y = within_8 _ _ _ _ c.in_ok-check_request.ensures refl in
+    let counted = rw c.in-Some.is at c.number_names.ensures.counted in
+    let few = rw c.in-Some.is at c.number_names.ensures.few in
     rw (p.1, p.2)
-    (exit_full _ _ _ c.in_ok-check_request.ensures refl c.number_names-entries.ensures.0 c.if-entries-gt-NAME_LIMIT.false _ _ _ _
+    (exit_full _ _ _ c.in_ok-check_request.ensures refl counted few _ _ _ _
     (c.settle.ensures _ y.store (record { low = y.low; fits = y.within })) (ap settled_of c.in_err-run.was))
 
 pub walk_from-tally-requires : goal.walk_from-tally-requires
@@ -53,9 +55,12 @@ walk_from-tally-requires c =
     let a = c.args in
     let request = request_of (as_field a.f) a.pattern.now a.bindings.now a.slots.now in
     let y = within_8 _ _ _ _ c.in_ok-check_request.ensures refl in
+    let counted = rw c.in-Some.is at c.number_names.ensures.counted in
+    let few = rw c.in-Some.is at c.number_names.ensures.few in
+    let numbers = c.number_names.ensures.numbers (rw c.in-Some.is refl) in
     let settled = settled_from _ request _ _ _ _ _ _
-    y c.number_names-entries.ensures.0 c.number_names-entries.ensures.1 c.if-entries-gt-NAME_LIMIT.false
-    (omega (arith, c.number_names-entries.auto.numbers, length-replicate {A = ℕ} 256 0))
+    y counted (λ _. numbers) few
+    (omega (arith, c.number_names.auto.numbers, length-replicate {A = ℕ} 256 0))
     (c.settle.ensures _ y.store (record { low = y.low; fits = y.within })) (ap settled_of c.in_ok-run.was) in record {
       inside = start-inside _ request _ _ _ _ _ settled;
       few = omega arith;
@@ -68,9 +73,12 @@ unfolding settled_of told_number
 returns c =
     let a = c.args in
     let y = within_8 _ _ _ _ c.in_ok-check_request.ensures refl in
+    let counted = rw c.in-Some.is at c.number_names.ensures.counted in
+    let few = rw c.in-Some.is at c.number_names.ensures.few in
+    let numbers = c.number_names.ensures.numbers (rw c.in-Some.is refl) in
     exit_done _ _ _ c.in_ok-check_request.ensures refl _ _ _ _ _
     (settled_from _ (request_of (as_field a.f) a.pattern.now a.bindings.now a.slots.now) _ _ _ _ _ _
-    y c.number_names-entries.ensures.0 c.number_names-entries.ensures.1 c.if-entries-gt-NAME_LIMIT.false
-    (omega (arith, c.number_names-entries.auto.numbers, length-replicate {A = ℕ} 256 0))
+    y counted (λ _. numbers) few
+    (omega (arith, c.number_names.auto.numbers, length-replicate {A = ℕ} 256 0))
     (c.settle.ensures _ y.store (record { low = y.low; fits = y.within })) (ap settled_of c.in_ok-run.was))
     _ refl _ _ c.slots_in-cap.ensures refl c.walk_from-tally.ensures c.walk_from-tally.auto.slots c.answer.ensures
