@@ -21,7 +21,8 @@ pub const PART: usize = 4096;
 
 const STACK_WORDS: usize = PART * 2;
 
-// What was read of a node, as one word: the place among the part's terms where it begins, times this number, plus how many they are.
+// What was read of a node, as one word, since a table of them takes 256 KB of stack: the place among the part's terms where it begins, times this
+// number, plus how many they are.
 const SEEN: usize = 65536;
 
 // The n places from `start` on go to the words from `to` on.

@@ -23,7 +23,8 @@ pub struct Piece {
     pub left: usize,
 }
 
-// Fields, in words: two to a field, the last one last.
+// Fields, in words: two to a field, the last one last. An `ArrayVec` of fields would take twice the stack, and its `new`, `pop` and `clear` write
+// every place that they leave empty.
 #[derive(Drop)]
 pub struct Stack<const WORDS: usize> {
     words: [u32; WORDS],

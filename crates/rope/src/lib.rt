@@ -150,7 +150,8 @@ pub fn equal_fronts(
     ensures { let words = nodes.now in
         let vs = values_in names.now terms.now terms_used in
         ((used : ℕ) → ShowBoth words terms_used used f g n
-        → result ≡ equal_terms (holds vs (nodes_in words used) (record { node = f; len = n })) (holds vs (nodes_in words used) (record { node = g; len = n }))) }
+        → result ≡ equal_terms (holds vs (nodes_in words used) (record { node = f; len = n }))
+        (holds vs (nodes_in words used) (record { node = g; len = n }))) }
 {
     if f == g {
         return true;

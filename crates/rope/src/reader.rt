@@ -69,6 +69,7 @@ impl Reader {
                     len: at.left.min(here),
                 });
             }
+            // Not by `Ahead::enter`, since the stack can be full where the piece goes on in the right.
             if at.left <= here {
                 self.ahead.at.node = n.a;
                 continue;

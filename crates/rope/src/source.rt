@@ -15,6 +15,7 @@ fn copy_words(source: &[u32], target: &mut [u32], from: usize, to: usize, n: usi
     target[to..to + n].copy_from_slice(&source[from..from + n]);
 }
 
+// Where terms are copied from. What a copy to another slice and one within a slice need to know is the same by these laws.
 pub trait Source: Copy {
     // The slice that has the terms where the words are these; how many are used there; the record of the words where the first of them goes.
     ghost terms: { Self → List ℕ → List ℕ };
