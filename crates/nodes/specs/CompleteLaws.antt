@@ -15,7 +15,7 @@ use Rattle.view_spec.proofs.NodeLaws.{nil_first, node-new, trans_grown, reach_li
 use Rattle.view_spec.proofs.ChainLaws.{last_snoc}
 use Rattle.view_spec.proofs.PlanLaws.{if_yes, if_no}
 use Rattle.view_spec.specs.Build.{last, make_concat, if_dec}
-use Rattle.nodes.specs.NodeStore.{nodes_in, NodeStore, AnyStore}
+use Rattle.nodes.specs.NodeStore.{nodes_in, AnyStore}
 use Rattle.nodes.specs.Complete.{child_of, make_over, wrap, completed, last_made, Completes, Became}
 use Rattle.nodes.specs.MakeLaws.{any, good-any, concat-at}
 use Rattle.nodes.specs.WriteLaws.{put-length, put-upto, put_above, put_later}
