@@ -1,5 +1,5 @@
 -- Laws of building the chain: the words hold the chain of the runs after the one that is held, and closing it makes one Cons more.
-use Rattle.std.specs.Prelude.{◌≡◌, List, [], ◌∷◌, ◌++◌, T, length, drop, ℕ, suc, zero, ◌+◌, ◌-◌, ◌*◌, ◌/◌, ◌^◌, ◌≤◌, ◌<◌}
+use Rattle.std.specs.Prelude.{◌≡◌, List, [], ◌∷◌, ◌++◌, T, length, drop, ℕ, suc, zero, ◌+◌, ◌-◌, ◌*◌, ◌/◌, ◌≤◌, ◌<◌}
 use Rattle.std.proofs.Math.Path.{refl}
 use Rattle.std.proofs.Common.{ap, sym, ◌∙◌, length-append, drop_at, arith}
 use Rattle.std.proofs.lemmas.List.{length-replicate}
@@ -11,7 +11,7 @@ use Rattle.term_spec.proofs.WordsLaws.{decode-length}
 use Rattle.term_spec.specs.Term.{Run, run_layout, run_rule, runs_rule}
 use Rattle.view_spec.specs.Node.{Node, node_layout, cons_node, GoodNodes}
 use Rattle.view_spec.proofs.NodeLaws.{nodes_there}
-use Rattle.view_spec.specs.Build.{fuse, chain, chain_head}
+use Rattle.view_spec.specs.Build.{chain, chain_head}
 use Rattle.view_spec.proofs.ChainLaws.{Fine, fuse-fine, chain_made, chain_length}
 use Rattle.view_spec.proofs.PlanLaws.{if_yes, if_no}
 use Rattle.nodes.specs.NodeStore.{nodes_in}

@@ -4,7 +4,7 @@
 
 ghost use Rattle.std.specs.Prelude.{◌≡◌, ◌≤◌, ◌&&◌, leb, length, drop};
 ghost use Rattle.term_spec.specs.Words.{AtMost, count, whole, records, write};
-ghost use Rattle.term_spec.specs.Term.{run_layout, runs_rule, run_list_limit};
+ghost use Rattle.term_spec.specs.Term.{run_layout, run_rule, runs_rule, run_list_limit};
 ghost use Rattle.view_spec.specs.Node.{node_layout};
 ghost use Rattle.view_spec.specs.Build.{chain, chain_head, total};
 ghost use Rattle.words.specs.Records.{as_run};
@@ -26,10 +26,15 @@ pub fn runs_even(runs: &[u32]) -> bool
     ensures { let words = runs.now in
         result ≡ whole run_layout words && leb (count run_layout words) run_list_limit }
 {
-    if runs.len() % words::RUN_WIDTH != 0 {
-        return false;
-    }
-    runs.len() / words::RUN_WIDTH <= words::RUN_LIST_LIMIT
+    runs.len() % words::RUN_WIDTH == 0 && runs.len() / words::RUN_WIDTH <= words::RUN_LIST_LIMIT
+}
+
+// Whether a run ends within so many terms.
+#[tactic(auto, using(std::proofs::lemmas::Bool::Decides::nat_tests), unfolding(term_spec::specs::Term::run_rule))]
+fn run_inside(r: Run, terms: usize) -> bool
+    ensures { result ≡ run_rule terms (as_run r) }
+{
+    r.len <= terms && r.start <= terms - r.len
 }
 
 // Whether every run, even an empty one, ends within so many terms.
@@ -37,18 +42,7 @@ pub fn runs_inside(runs: &[u32], terms: usize) -> bool
     ensures { result ≡ runs_rule terms (records run_layout runs.now) }
 {
     let n = runs.len() / words::RUN_WIDTH;
-    let mut i = 0;
-    while i < n {
-        let r = words::get::<Run>(runs, i);
-        if terms < r.len {
-            return false;
-        }
-        if terms - r.len < r.start {
-            return false;
-        }
-        i += 1;
-    }
-    true
+    (0..n).all(|i| run_inside(words::get::<Run>(runs, i), terms))
 }
 
 // The terms of the runs together.
@@ -58,12 +52,9 @@ pub fn runs_total(runs: &[u32]) -> usize
     ensures { result ≡ total (records run_layout runs.now) }
 {
     let n = runs.len() / words::RUN_WIDTH;
-    let mut i = 0;
     let mut sum = 0;
-    while i < n {
-        let r = words::get::<Run>(runs, i);
-        sum += r.len;
-        i += 1;
+    for i in 0..n {
+        sum += words::get::<Run>(runs, i).len;
     }
     sum
 }
@@ -91,24 +82,17 @@ fn step_of(r: Run, next: usize, start: usize) -> Step
 pub fn from_runs_makes(runs: &[u32]) -> usize
     ensures { result ≡ length (fused_in runs.now) }
 {
-    let mut i = runs.len() / words::RUN_WIDTH;
+    let n = runs.len() / words::RUN_WIDTH;
     let mut made: usize = 0;
     let mut start: usize = 0;
-    while 0 < i {
-        i -= 1;
+    for i in (0..n).rev() {
         let r = words::get::<Run>(runs, i);
         match step_of(r, made, start) {
-            Step::Skip => {
-                continue;
-            }
-            Step::Fuse => {
-                start = r.start;
-                continue;
-            }
+            Step::Skip => {}
+            Step::Fuse => start = r.start,
             Step::Part => {
                 start = r.start;
                 made += 1;
-                continue;
             }
         }
     }
@@ -120,10 +104,7 @@ fn tail(used: usize, at: usize) -> usize
     requires { used ≤ at }
     ensures { result ≡ head_at used at }
 {
-    if at == used {
-        return 0;
-    }
-    at - 1
+    if at == used { 0 } else { at - 1 }
 }
 
 // The Cons of the run that is held, if there is one, at `at`; hands back the used count after it.
@@ -146,27 +127,22 @@ pub fn from_runs_build(nodes: &mut [u32], used: usize, runs: &[u32]) -> usize
         let after = chain fused (nodes_in before used) in
         (result ≡ chain_head fused after) × (nodes.new ≡ write node_layout before used (drop used after)) }
 {
-    let mut i = runs.len() / words::RUN_WIDTH;
+    let n = runs.len() / words::RUN_WIDTH;
     let mut at = used;
     let mut start: usize = 0;
     let mut len: usize = 0;
-    while 0 < i {
-        i -= 1;
+    for i in (0..n).rev() {
         let r = words::get::<Run>(runs, i);
         match step_of(r, len, start) {
-            Step::Skip => {
-                continue;
-            }
+            Step::Skip => {}
             Step::Fuse => {
                 start = r.start;
                 len += r.len;
-                continue;
             }
             Step::Part => {
                 at = close(nodes, used, at, start, len);
                 start = r.start;
                 len = r.len;
-                continue;
             }
         }
     }
