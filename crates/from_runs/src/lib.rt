@@ -13,11 +13,11 @@ ghost use Rattle.from_runs.specs.FromRuns.{Stepped, head_at, closed, closed_at, 
 
 use words::Run;
 
-// What a run does before the runs after it: nothing, since it is empty; it is fused with the next; it stands by itself.
+// What a run does before the runs after it: nothing, since it is empty; it is fused with the next, which is this one; it stands by itself.
 #[derive(Clone, Copy)]
 pub enum Step {
     Skip,
-    Fuse,
+    Fuse(Run),
     Part,
 }
 
@@ -59,23 +59,20 @@ pub fn runs_total(runs: &[u32]) -> usize
     sum
 }
 
-// What the run r does where the next run starts at `start`; there is none if `next` is 0.
-fn step_of(r: Run, next: usize, start: usize) -> Step
-    ensures { Stepped (as_run r) next start result }
+// What the run r does before the next one, if there is one, of which only the start is read.
+fn step_of(r: Run, next: Option<Run>) -> Step
+    ensures { Stepped (as_run r) next result }
 {
     if r.len == 0 {
         return Step::Skip;
     }
-    if next == 0 {
+    let Some(next) = next else {
         return Step::Part;
+    };
+    if r.start <= next.start && next.start - r.start == r.len {
+        return Step::Fuse(next);
     }
-    if start < r.start {
-        return Step::Part;
-    }
-    if start - r.start != r.len {
-        return Step::Part;
-    }
-    Step::Fuse
+    Step::Part
 }
 
 // How many nodes from_runs_build makes: the runs left when empty ones are skipped and neighbours fused.
@@ -84,14 +81,14 @@ pub fn from_runs_makes(runs: &[u32]) -> usize
 {
     let n = runs.len() / words::RUN_WIDTH;
     let mut made: usize = 0;
-    let mut start: usize = 0;
+    let mut next = None;
     for i in (0..n).rev() {
         let r = words::get::<Run>(runs, i);
-        match step_of(r, made, start) {
+        match step_of(r, next) {
             Step::Skip => {}
-            Step::Fuse => start = r.start,
+            Step::Fuse(_) => next = Some(r),
             Step::Part => {
-                start = r.start;
+                next = Some(r);
                 made += 1;
             }
         }
@@ -99,7 +96,7 @@ pub fn from_runs_makes(runs: &[u32]) -> usize
     made
 }
 
-// The node that the next Cons goes before: the last made from `used` on, 0 if none is made.
+// The node that the next Cons goes before: the last made from `used` on, and node 0, which is Nil, if none is made.
 fn tail(used: usize, at: usize) -> usize
     requires { used ≤ at }
     ensures { result ≡ head_at used at }
@@ -108,15 +105,17 @@ fn tail(used: usize, at: usize) -> usize
 }
 
 // The Cons of the run that is held, if there is one, at `at`; hands back the used count after it.
-fn close(nodes: &mut [u32], used: usize, at: usize, start: usize, len: usize) -> usize
-    requires { Closes nodes.old used at start len }
-    ensures { (result ≡ closed_at at len) × (nodes.new ≡ closed nodes.old used at start len) }
+fn close(nodes: &mut [u32], used: usize, at: usize, held: Option<Run>) -> usize
+    requires { Closes nodes.old used at held }
+    ensures { (result ≡ closed_at at held) × (nodes.new ≡ closed nodes.old used at held) }
 {
-    if len == 0 {
-        return at;
+    match held {
+        None => at,
+        Some(r) => {
+            nodes::make_cons(nodes, at, r.start, r.len, tail(used, at));
+            at + 1
+        }
     }
-    nodes::make_cons(nodes, at, start, len, tail(used, at));
-    at + 1
 }
 
 // One Cons for each run left, made from the last run to the first; hands back the first Cons, 0 if there is none.
@@ -129,23 +128,23 @@ pub fn from_runs_build(nodes: &mut [u32], used: usize, runs: &[u32]) -> usize
 {
     let n = runs.len() / words::RUN_WIDTH;
     let mut at = used;
-    let mut start: usize = 0;
-    let mut len: usize = 0;
+    let mut held = None;
     for i in (0..n).rev() {
         let r = words::get::<Run>(runs, i);
-        match step_of(r, len, start) {
+        match step_of(r, held) {
             Step::Skip => {}
-            Step::Fuse => {
-                start = r.start;
-                len += r.len;
+            Step::Fuse(next) => {
+                held = Some(Run {
+                    start: r.start,
+                    len: r.len + next.len,
+                });
             }
             Step::Part => {
-                at = close(nodes, used, at, start, len);
-                start = r.start;
-                len = r.len;
+                at = close(nodes, used, at, held);
+                held = Some(r);
             }
         }
     }
-    at = close(nodes, used, at, start, len);
+    at = close(nodes, used, at, held);
     tail(used, at)
 }

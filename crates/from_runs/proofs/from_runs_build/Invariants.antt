@@ -3,4 +3,4 @@ use Rattle.from_runs.specs.BuildLaws.{Going}
 use Rattle.from_runs.proofs.from_runs_build.Given as goal
 
 abbrev pub invariant-loop-i : goal.invariant-loop-i
-invariant-loop-i l = Going l.fn.nodes l.used l.runs l.nodes l.i l.at l.start l.len
+invariant-loop-i l = Going l.fn.nodes l.used l.runs l.nodes l.i l.at l.held

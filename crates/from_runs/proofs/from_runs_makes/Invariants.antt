@@ -3,4 +3,4 @@ use Rattle.from_runs.specs.FuseLaws.{Counted}
 use Rattle.from_runs.proofs.from_runs_makes.Given as goal
 
 abbrev pub invariant-loop-i : goal.invariant-loop-i
-invariant-loop-i l = Counted l.runs l.i l.made l.start
+invariant-loop-i l = Counted l.runs l.i l.made l.next
