@@ -218,9 +218,6 @@ module _ (w : List ℕ) (used : ℕ) (runs : List ℕ) (o : Chains w used runs) 
       pub closed_low : used ≤ z
       closed_low = omega (arith, all_held.count)
 
-      pub closed_size : length u ≡ length w
-      closed_size = all_held.size
-
       pub going_end : k ≤ 0 → {x : ℕ} → x ≡ head_at used z
           → (x ≡ chain_head (fused_in runs) (chain (fused_in runs) ns)) × (u ≡ write node_layout w used (drop used (chain (fused_in runs) ns)))
       going_end h {x} e =

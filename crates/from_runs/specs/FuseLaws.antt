@@ -57,11 +57,6 @@ unfoldable pub others : List Run → List Run
 others [] = []
 others (q ∷ qs) = qs
 
-pub others-length : (qs : List Run) (r : CodeRun) {next : Option CodeRun} → Starts qs next → next ≡ Some r → suc (length (others qs)) ≡ length qs
-unfolding Starts others
-others-length [] r h e = cc
-others-length (q ∷ qs) r h e = refl
-
 module _ (r : Run) (s : CodeRun) where
   -- it is fused where it ends where the next one starts
   pub onto_fuse : (q : Run) (qs : List Run) → q.start ≡ s.start → r.start + r.len ≡ s.start → fuse_onto r (q ∷ qs) ≡ record { start = r.start; len = r.len + q.len } ∷ qs

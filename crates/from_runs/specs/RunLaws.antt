@@ -2,9 +2,10 @@
 use Rattle.std.specs.Prelude.{◌≡◌, List, [], ◌∷◌, Bool, true, false, get_or, suc, zero, ◌&&◌, T, leb, length, drop, ℕ, ◌+◌, ◌*◌, ◌/◌, ◌%◌, ◌≤◌, ◌<◌}
 use Rattle.std.proofs.Math.Path.{refl, sym}
 use borrow.Author.Tests.{eq-eqb, ne_eqb}
-use Rattle.std.proofs.Common.{◌∙◌, arith}
+use Rattle.std.proofs.Common.{ap, ◌∙◌, arith}
+use Rattle.std.proofs.lemmas.List.Sums.{sum_by-cons}
 use Rattle.std.specs.Bool.{MatchBool}
-use Rattle.std.specs.List.{range_with_len, AllWithin, HoldsAt}
+use Rattle.std.specs.List.{range_with_len, sum_by, AllWithin, HoldsAt}
 use Rattle.std.proofs.lemmas.List.FromFn.{length-range_with_len, get_or-range_with_len}
 use Rattle.term_spec.proofs.BoolLaws.{both_of}
 use Rattle.term_spec.specs.Words.{AtMost, record_at, records, count, whole}
@@ -78,21 +79,19 @@ module _ (w : List ℕ) where
 
   -- ---- their terms together ----
 
-  pub total-all : (i : ℕ) {sum : ℕ} → i ≡ length w / run_layout.width → sum + total (drop i (records run_layout w)) ≡ total (records run_layout w) → sum ≡ total (records run_layout w)
+  -- the length of run i
+  abbrev pub length_of : ℕ → ℕ
+  length_of i = (record_at run_layout w i).len
+
+  lengths_from : (n i : ℕ) → i + n ≡ length w / run_layout.width → sum_by length_of (range_with_len i n) ≡ total (drop i (records run_layout w))
   unfolding total
-  total-all i e h = omega (arith, rw (e, runs_done) at h)
+  lengths_from zero i e = let z : i ≡ length w / run_layout.width = omega arith in rw (z, runs_done) refl
+  lengths_from (suc n) i e =
+      sum_by-cons length_of i (range_with_len (i + 1) n) ∙ ap (length_of i +◌) (lengths_from n (i + 1) (omega arith))
+      ∙ sym (ap total (runs_next i (omega arith) refl))
 
-  pub total-start : 0 + total (drop 0 (records run_layout w)) ≡ total (records run_layout w)
-  total-start = omega arith
-
-  pub total_next : {i : ℕ} (sum : ℕ) {r : Run} → i < length w / run_layout.width → r ≡ record_at run_layout w i → sum + total (drop i (records run_layout w)) ≡ total (records run_layout w)
-      → sum + r.len + total (drop (i + 1) (records run_layout w)) ≡ total (records run_layout w)
-  unfolding total
-  total_next {i} sum lt e h = omega (arith, rw (runs_next i lt e) at h)
-
-  pub total_here : {i : ℕ} (sum : ℕ) {r : Run} → i < length w / run_layout.width → r ≡ record_at run_layout w i → sum + total (drop i (records run_layout w)) ≡ total (records run_layout w)
-      → sum + r.len ≤ total (records run_layout w)
-  total_here sum lt e h = omega (arith, total_next sum lt e h)
+  pub lengths_sum : sum_by length_of (range_with_len 0 (length w / run_layout.width)) ≡ total (records run_layout w)
+  lengths_sum = lengths_from (length w / run_layout.width) 0 (omega arith)
 
 -- Runs inside so many terms hold at most so many each.
 total_most : (terms : ℕ) (rs : List Run) → terms ≤ limit → T (runs_rule terms rs) → total rs ≤ length rs * limit

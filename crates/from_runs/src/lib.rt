@@ -52,11 +52,7 @@ pub fn runs_total(runs: &[u32]) -> usize
     ensures { result ≡ total (records run_layout runs.now) }
 {
     let n = runs.len() / words::RUN_WIDTH;
-    let mut sum = 0;
-    for i in 0..n {
-        sum += words::get::<Run>(runs, i).len;
-    }
-    sum
+    (0..n).map(|i| words::get::<Run>(runs, i).len).sum()
 }
 
 // What the run r does before the next one, if there is one, of which only the start is read.

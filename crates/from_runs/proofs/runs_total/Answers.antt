@@ -1,13 +1,22 @@
-use Rattle.std.proofs.Common.{arith}
-use Rattle.from_runs.specs.RunLaws.{total-all, total_next, total_here, total_low}
+-- The lengths of the runs, one after the other, sum to their total.
+use Rattle.std.specs.Prelude.{◌/◌, length}
+use Rattle.std.specs.List.{range_with_len}
+use Rattle.std.proofs.Common.{rules, arith, ◌∙◌}
+use Rattle.std.proofs.lemmas.Iterator.{YieldsList-from_range, YieldsList-from_map}
+use Rattle.std.proofs.lemmas.Iterator.Consumers.{sum_by_from_yields_List, fits_by_from_yields_list}
+use Rattle.from_runs.specs.RunLaws.{length_of, lengths_sum, total_low}
 use Rattle.from_runs.proofs.runs_total.Goals as goal
 
-pub overflow_add-sum : goal.overflow_add-sum
-overflow_add-sum c =
-    omega (arith, total_here _ c.loop-i.sum c.loop-i-test.true c.get-sum.ensures c.loop-i.invariant, total_low _ _ c.requires.inside.few_terms c.requires.few c.requires.inside.rule)
-
-pub loop-i-preserved : goal.loop-i-preserved
-loop-i-preserved c = total_next _ c.loop-i.sum c.loop-i-test.true c.get-sum.ensures c.loop-i.invariant
+pub sum-requires-clause-fits : goal.sum-requires-clause-fits
+sum-requires-clause-fits c =
+    let n = length c.args.runs.now / 2 in
+    fits_by_from_yields_list (length_of c.args.runs.now) (range_with_len 0 n) c.map.result _
+    (YieldsList-from_map _ (length_of c.args.runs.now) (YieldsList-from_range 0 n n (cc) (omega arith)) c.map.ensures.closure (λ x r q k. search rules))
+    (omega (arith, lengths_sum c.args.runs.now, total_low _ _ c.requires.inside.few_terms c.requires.few c.requires.inside.rule))
 
 pub returns : goal.returns
-returns c = total-all _ c.loop-i.i (omega arith) c.loop-i.invariant
+returns c =
+    let n = length c.args.runs.now / 2 in
+    sum_by_from_yields_List (length_of c.args.runs.now) (range_with_len 0 n) c.map.result _ c.sum.ensures.ran
+    (YieldsList-from_map _ (length_of c.args.runs.now) (YieldsList-from_range 0 n n (cc) (omega arith)) c.map.ensures.closure (λ x r q k. search rules))
+    ∙ lengths_sum c.args.runs.now
