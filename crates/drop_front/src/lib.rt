@@ -10,13 +10,24 @@ ghost use Rattle.drop_front.specs.DropFront.{StoppedIn, plan_in, Room};
 
 use words::Node;
 
-// Where dropping ends along the right sides: at a node, in a Cons (its rest, to be made), or inside a Concat's left: that left, the
-// terms to drop there, the size left over, and the right.
+// Where dropping ends along the right sides.
 #[derive(Clone, Copy)]
 pub enum Stop {
+    // At this node, with nothing left to drop.
     Stay(usize),
-    Cut(usize, usize, usize),
-    Under(usize, usize, usize, usize),
+    // In a Cons: the run and the tail of its rest, which is to be made.
+    Cut {
+        start: usize,
+        len: usize,
+        tail: usize,
+    },
+    // Inside a Concat's left: that left, the terms to drop there, those of it that stay, and the Concat's right.
+    Under {
+        inside: usize,
+        count: usize,
+        size: usize,
+        right: usize,
+    },
 }
 
 // To the right, from a Cons to its tail and from a Concat to its right, while what is to drop isn't inside.
@@ -26,23 +37,30 @@ fn stop_at(nodes: &[u32], node: usize, count: usize) -> Stop
 {
     let mut at = node;
     let mut left = count;
-    loop {
-        if left == 0 {
-            return Stop::Stay(at);
-        }
+    while 0 < left {
         let n = words::get::<Node>(nodes, at);
         if left < n.b {
             if n.kind == words::CONS {
-                return Stop::Cut(n.a + left, n.b - left, n.c);
+                return Stop::Cut {
+                    start: n.a + left,
+                    len: n.b - left,
+                    tail: n.c,
+                };
             }
-            return Stop::Under(n.a, left, n.b - left, n.c);
+            return Stop::Under {
+                inside: n.a,
+                count: left,
+                size: n.b - left,
+                right: n.c,
+            };
         }
-        left = left - n.b;
+        left -= n.b;
         at = n.c;
     }
+    Stop::Stay(at)
 }
 
-// How many nodes drop_front_build makes.
+// How many nodes drop_front_build makes. One walk with a closure for both would be no plainer: this one reads the nodes that the other writes.
 pub fn drop_front_makes(nodes: &[u32], node: usize, count: usize) -> usize
     requires { ReachesIn nodes.now node count }
     ensures { let words = nodes.now in
@@ -53,16 +71,16 @@ pub fn drop_front_makes(nodes: &[u32], node: usize, count: usize) -> usize
     let mut made: usize = 0;
     loop {
         match stop_at(nodes, at, left) {
-            Stop::Stay(_) => {
-                return made;
-            }
-            Stop::Cut(_, _, _) => {
-                return made + 1;
-            }
-            Stop::Under(x, k, _, _) => {
-                at = x;
-                left = k;
-                made = made + 1;
+            Stop::Stay(_) => return made,
+            Stop::Cut { .. } => return made + 1,
+            Stop::Under {
+                inside,
+                count: inner,
+                ..
+            } => {
+                at = inside;
+                left = inner;
+                made += 1;
             }
         }
     }
@@ -90,18 +108,21 @@ pub fn drop_front_build(
     let mut left = count;
     loop {
         match stop_at(nodes, at, left) {
-            Stop::Stay(x) => {
-                return nodes::complete(nodes, hi, end, x);
-            }
-            Stop::Cut(a, b, c) => {
-                nodes::make_cons(nodes, used, a, b, c);
+            Stop::Stay(kept) => return nodes::complete(nodes, hi, end, kept),
+            Stop::Cut { start, len, tail } => {
+                nodes::make_cons(nodes, used, start, len, tail);
                 return nodes::complete(nodes, hi, end, used);
             }
-            Stop::Under(x, k, size, right) => {
-                hi = hi - 1;
+            Stop::Under {
+                inside,
+                count: inner,
+                size,
+                right,
+            } => {
+                hi -= 1;
                 nodes::reserve(nodes, hi, 0, size, right);
-                at = x;
-                left = k;
+                at = inside;
+                left = inner;
             }
         }
     }

@@ -1,5 +1,5 @@
 -- Laws of building the chain: the words hold the chain of the runs after the one that is held, and closing it makes one Cons more.
-use Rattle.std.specs.Prelude.{◌≡◌, List, [], ◌∷◌, ◌++◌, T, length, drop, ℕ, suc, zero, ◌+◌, ◌-◌, ◌*◌, ◌/◌, ◌^◌, ◌≤◌, ◌<◌}
+use Rattle.std.specs.Prelude.{◌≡◌, Option, None, Some, List, [], ◌∷◌, ◌++◌, T, length, drop, ℕ, suc, zero, ◌+◌, ◌-◌, ◌*◌, ◌/◌, ◌≤◌, ◌<◌}
 use Rattle.std.proofs.Math.Path.{refl}
 use Rattle.std.proofs.Common.{ap, sym, ◌∙◌, length-append, drop_at, arith}
 use Rattle.std.proofs.lemmas.List.{length-replicate}
@@ -9,15 +9,17 @@ use Rattle.term_spec.proofs.ListLaws.{All}
 use Rattle.term_spec.specs.Words.{Lies, record_at, records, write}
 use Rattle.term_spec.proofs.WordsLaws.{decode-length}
 use Rattle.term_spec.specs.Term.{Run, run_layout, run_rule, runs_rule}
+use Rattle.words.specs.declared.Run.{Run as CodeRun}
+use Rattle.words.specs.Records.{as_run}
 use Rattle.view_spec.specs.Node.{Node, node_layout, cons_node, GoodNodes}
 use Rattle.view_spec.proofs.NodeLaws.{nodes_there}
-use Rattle.view_spec.specs.Build.{fuse, chain, chain_head}
+use Rattle.view_spec.specs.Build.{fuse_onto, chain, chain_head}
 use Rattle.view_spec.proofs.ChainLaws.{Fine, fuse-fine, chain_made, chain_length}
 use Rattle.view_spec.proofs.PlanLaws.{if_yes, if_no}
 use Rattle.nodes.specs.NodeStore.{nodes_in}
 use Rattle.nodes.specs.MakeLaws.{any}
 use Rattle.from_runs.specs.FromRuns.{head_at, closed, closed_at, Closes, Chains, fused_in}
-use Rattle.from_runs.specs.FuseLaws.{left, left_end, left-all, left_skip, left_onto, Starts, first_len, others, onto_fuse, onto_part, left_shorter}
+use Rattle.from_runs.specs.FuseLaws.{left, left_end, left-all, left_skip, left_onto, Starts, others, onto_fuse, onto_part, left_shorter}
 use Rattle.nodes.specs.WriteLaws.{put-length, put-upto, put_above, later, is_write}
 
 -- ---- the last node made, and the used count after the Cons ----
@@ -44,20 +46,19 @@ chain_head_lem (q ∷ qs) ns used at e h =
     sym (head_last used at (λ z. omega arith)) ∙ omega (arith, chain_length (q ∷ qs) ns)
 
 -- What `close` does: nothing if no run is held, and else one Cons.
-pub close_none : (v : List ℕ) (used at s len : ℕ) → len ≡ 0 → (at ≡ closed_at at len) × (v ≡ closed v used at s len)
+pub close_none : (v : List ℕ) (used at : ℕ) {held : Option CodeRun} → held ≡ None → (at ≡ closed_at at held) × (v ≡ closed v used at held)
 unfolding closed_at closed
-close_none v used at s len e = rw e (refl, refl)
+close_none v used at e = rw e (refl, refl)
 
-pub close_one : (v : List ℕ) (used at s len : ℕ) → (len ≡ 0 → ⊥)
-    → (at + 1 ≡ closed_at at len) × (write node_layout v at (cons_node (nodes_in v at) s len (head_at used at) ∷ []) ≡ closed v used at s len)
-unfolding closed_at closed
-close_one v used at s zero n = absurd (n refl)
-close_one v used at s (suc l) n = (refl, refl)
+pub close_room : (v : List ℕ) (at : ℕ) (r : CodeRun) {held : Option CodeRun} → held ≡ Some r → Lies node_layout v (closed_at at held) → Lies node_layout v (at + 1)
+unfolding closed_at
+close_room v at r e h = rw e at h
 
 -- The Cons as the code makes it.
-pub close_made : (v : List ℕ) (used at s len : ℕ) {c : ℕ} {u : List ℕ} → (len ≡ 0 → ⊥) → c ≡ head_at used at
-    → u ≡ write node_layout v at (cons_node (nodes_in v at) s len c ∷ []) → (at + 1 ≡ closed_at at len) × (u ≡ closed v used at s len)
-close_made v used at s len n e q = let (x, y) = close_one v used at s len n in (x, q ∙ rw e y)
+pub close_made : (v : List ℕ) (used at : ℕ) (r : CodeRun) {held : Option CodeRun} {c : ℕ} {u : List ℕ} → held ≡ Some r → c ≡ head_at used at
+    → u ≡ write node_layout v at (cons_node (nodes_in v at) r.start r.len c ∷ []) → (at + 1 ≡ closed_at at held) × (u ≡ closed v used at held)
+unfolding closed_at closed
+close_made v used at r h e q = rw h (refl, q ∙ rw e refl)
 
 -- ---- the words hold a chain ----
 
@@ -68,37 +69,48 @@ pub record Holds (w : List ℕ) (used : ℕ) (qs : List Run) (v : List ℕ) (at 
   pub above : drop (at * node_layout.width) v ≡ drop (at * node_layout.width) w
   pub size : length v ≡ length w
 
+-- Two runs as one.
+abbrev fused : CodeRun → CodeRun → CodeRun
+fused r n = record { start = r.start; len = r.len + n.len }
+
+-- The run that is held is the first of qs; there is none if none is held.
+unfoldable pub Held : List Run → Option CodeRun → Type 0
+Held [] held = held ≡ None
+Held (q ∷ qs) held = (r : CodeRun) × (held ≡ Some r) × (q ≡ as_run r)
+
+held_starts : (qs : List Run) (held : Option CodeRun) → Held qs held → Starts qs held
+unfolding Held Starts
+held_starts [] held h = h
+held_starts (q ∷ qs) held (r, e, same) = (r, e, ap (λ (x : Run). x.start) same)
+
 -- The used count after the Cons of the first of qs.
-close_count : (used at s len : ℕ) (qs : List Run) → Starts qs s len → at ≡ used + length (others qs) → closed_at at len ≡ used + length qs
-unfolding Starts others closed_at
-close_count used at s len [] h e = sym (close_none [] used at s len h.1).0 ∙ e
-close_count used at s len (q ∷ qs) h e = sym (close_one [] used at s len (λ z. omega arith)).0 ∙ omega arith
+close_count : (used at : ℕ) (held : Option CodeRun) (qs : List Run) → Held qs held → at ≡ used + length (others qs) → closed_at at held ≡ used + length qs
+unfolding Held others closed_at
+close_count used at held [] h e = rw h e
+close_count used at held (q ∷ qs) (r, h, same) e = rw h (omega arith)
 
 chain-cons : (q : Run) (qs : List Run) (ns : List Node)
     → chain qs ns ++ (cons_node (chain qs ns) q.start q.len (chain_head qs (chain qs ns)) ∷ []) ≡ chain (q ∷ qs) ns
 unfolding chain
 chain-cons q qs ns = refl
 
-close_more : (at len : ℕ) → at ≤ closed_at at len
+close_more : (at : ℕ) (held : Option CodeRun) → at ≤ closed_at at held
 unfolding closed_at
-close_more at zero = omega arith
-close_more at (suc l) = omega arith
+close_more at None = omega arith
+close_more at (Some r) = omega arith
 
 -- Closing makes the Cons of the first of qs.
-pub holds-closed : (w : List ℕ) (used : ℕ) (qs : List Run) (v : List ℕ) (at s len : ℕ) {u : List ℕ} {z : ℕ}
-    → Holds w used (others qs) v at → Starts qs s len → first_len qs ≡ len → Lies node_layout v (closed_at at len)
-    → z ≡ closed_at at len → u ≡ closed v used at s len → Holds w used qs u z
-unfolding Starts first_len others
-holds-closed w used [] v at s len o h f r e g =
-    let (x, y) = close_none v used at s len h.1 in
-    rw (e, g, ← x, ← y) o
-holds-closed w used (q ∷ qs) v at s len o h f r e g =
-    let (x, y) = close_one v used at s len (λ z. omega arith) in
-    let l : Lies node_layout v (at + 1) = omega arith in
+pub holds-closed : (w : List ℕ) (used : ℕ) (qs : List Run) (v : List ℕ) (at : ℕ) (held : Option CodeRun) {u : List ℕ} {z : ℕ}
+    → Holds w used (others qs) v at → Held qs held → Lies node_layout v (closed_at at held)
+    → z ≡ closed_at at held → u ≡ closed v used at held → Holds w used qs u z
+unfolding Held others closed closed_at
+holds-closed w used [] v at held o h r e g = rw (e, g, h) o
+holds-closed w used (q ∷ qs) v at held o (s, h, same) r e g =
+    let l : Lies node_layout v (at + 1) = rw h at r in
     let k = chain_head_lem qs (nodes_in w used) used at (decode-length node_layout used w) o.count in
-    let n = cons_node (nodes_in v at) s len (head_at used at) in
-    rw (e, g, ← x, ← y) (record {
-      nodes = put-upto v at n l ∙ rw (o.nodes, k, ← h.0, ← f) (chain-cons q qs (nodes_in w used));
+    let n = cons_node (nodes_in v at) s.start s.len (head_at used at) in
+    rw (e, g, h) (record {
+      nodes = put-upto v at n l ∙ rw (o.nodes, k, same) (chain-cons (as_run s) qs (nodes_in w used));
       count = omega (arith, o.count);
       above = put_above v at n l (at + 1) (omega arith) ∙ later v w at (at + 1) (omega arith) o.above;
       size = put-length v at n l ∙ o.size;
@@ -121,18 +133,20 @@ unfolding All others
 others-fine terms [] a = a
 others-fine terms (q ∷ qs) a = a.1
 
-held-fine : (terms : ℕ) (qs : List Run) (s len : ℕ) → All (Fine terms) qs → Starts qs s len → first_len qs ≡ len → s + len ≤ terms
-unfolding All Starts first_len
-held-fine terms [] s len a h e = omega arith
-held-fine terms (q ∷ qs) s len a h e = omega (arith, a.0.within)
+held-fine : (terms : ℕ) (qs : List Run) (held : Option CodeRun) (r : CodeRun) → All (Fine terms) qs → Held qs held → held ≡ Some r → r.start + r.len ≤ terms
+unfolding All Held
+held-fine terms [] held r a h e = absurd (cc)
+held-fine terms (q ∷ qs) held r a (s, h, same) e =
+    let run : s ≡ r = cc in
+    let is : q ≡ as_run r = same ∙ ap as_run run in
+    rw is at a.0.within
 
 -- ---- the loop ----
 
 -- What the loop keeps: the run that is held is the first of those left from i on, and the words hold the chain of the others.
-pub record Going (w : List ℕ) (used : ℕ) (runs v : List ℕ) (i at start len : ℕ) : Type 0 where
+pub record Going (w : List ℕ) (used : ℕ) (runs v : List ℕ) (i at : ℕ) (held : Option CodeRun) : Type 0 where
   pub within : i ≤ length runs / run_layout.width
-  pub starts : Starts (left runs i) start len
-  pub size : first_len (left runs i) ≡ len
+  pub first : Held (left runs i) held
   pub holds : Holds w used (others (left runs i)) v at
 
 module _ (w : List ℕ) (used : ℕ) (runs : List ℕ) (o : Chains w used runs) where
@@ -158,30 +172,29 @@ module _ (w : List ℕ) (used : ℕ) (runs : List ℕ) (o : Chains w used runs) 
       let (new, e) = (chain_made xs qs ns (rw size_xs o.over.store.good) (rw size_xs a)).grown in
       ap (ns ++◌) (ap (drop used) e ∙ drop_at ns new used (decode-length node_layout used w)) ∙ sym e
 
-  pub going_start : Going w used runs w (length runs / run_layout.width) used 0 0
-  unfolding Starts first_len others chain
+  pub going_start : Going w used runs w (length runs / run_layout.width) used None
+  unfolding Held others chain
   going_start = record {
     within = omega arith;
-    starts = rw (left_end runs) (refl, refl);
-    size = rw (left_end runs) refl;
+    first = rw (left_end runs) refl;
     holds = rw (left_end runs) (record { nodes = refl; count = omega arith; above = refl; size = refl });
   }
 
-  module _ (v : List ℕ) (k at start len : ℕ) (g : Going w used runs v k at start len) where
+  module _ (v : List ℕ) (k at : ℕ) (held : Option CodeRun) (g : Going w used runs v k at held) where
     abbrev qs : List Run
     qs = left runs k
 
     fine : All (Fine terms) qs
     fine = left-fine terms runs k o.over.inside.rule
 
-    pub going_low : start + len ≤ terms
-    going_low = held-fine terms qs start len fine g.starts g.size
+    pub going_low : (r : CodeRun) → held ≡ Some r → r.start + r.len ≤ terms
+    going_low r e = held-fine terms qs held r fine g.first e
 
-    pub going_closes : Closes v used at start len
+    pub going_closes : Closes v used at held
     going_closes =
-        let c = close_count used at start len qs g.starts g.holds.count in
+        let c = close_count used at held qs g.first g.holds.count in
         let t = left_shorter runs k in
-        let m = close_more at len in
+        let m = close_more at held in
         record {
           store = record {
             terms = terms;
@@ -195,19 +208,15 @@ module _ (w : List ℕ) (used : ℕ) (runs : List ℕ) (o : Chains w used runs) 
           some_nodes = omega (arith, nodes_there terms ns o.over.store.good, decode-length node_layout used w);
           low = omega (arith, g.holds.count);
           room = omega (arith, c, t, o.room, g.holds.size);
-          start_low = omega (arith, going_low, o.over.inside.few_terms);
-          len_low = omega (arith, going_low, o.over.inside.few_terms);
+          small = λ r e. (omega (arith, going_low r e, o.over.inside.few_terms), omega (arith, going_low r e, o.over.inside.few_terms));
         }
 
-    module _ {u : List ℕ} {z : ℕ} (q : (z ≡ closed_at at len) × (u ≡ closed v used at start len)) where
+    module _ {u : List ℕ} {z : ℕ} (q : (z ≡ closed_at at held) × (u ≡ closed v used at held)) where
       all_held : Holds w used qs u z
-      all_held = holds-closed w used qs v at start len g.holds g.starts g.size going_closes.room q.0 q.1
+      all_held = holds-closed w used qs v at held g.holds g.first going_closes.room q.0 q.1
 
       pub closed_low : used ≤ z
       closed_low = omega (arith, all_held.count)
-
-      pub closed_size : length u ≡ length w
-      closed_size = all_held.size
 
       pub going_end : k ≤ 0 → {x : ℕ} → x ≡ head_at used z
           → (x ≡ chain_head (fused_in runs) (chain (fused_in runs) ns)) × (u ≡ write node_layout w used (drop used (chain (fused_in runs) ns)))
@@ -225,31 +234,37 @@ module _ (w : List ℕ) (used : ℕ) (runs : List ℕ) (o : Chains w used runs) 
                 (rw n all_held.above),
           )
 
-    module _ (p : 0 < k) {r : Run} (e : r ≡ record_at run_layout runs (k - 1)) where
-      pub going_skip : r.len ≡ 0 → Going w used runs v (k - 1) at start len
+    module _ (p : 0 < k) (r : CodeRun) (e : as_run r ≡ record_at run_layout runs (k - 1)) where
+      pub going_skip : r.len ≡ 0 → Going w used runs v (k - 1) at held
       going_skip q =
           let s = left_skip runs k p g.within e q in
-          record { within = omega (arith, g.within); starts = rw s g.starts; size = rw s g.size; holds = rw s g.holds }
+          record { within = omega (arith, g.within); first = rw s g.first; holds = rw s g.holds }
 
-      pub going_fuse : (1 ≤ r.len) × (1 ≤ len) × (r.start + r.len ≡ start) → Going w used runs v (k - 1) at r.start (len + r.len)
-      unfolding Starts first_len others
-      going_fuse q =
-          let s = left_onto runs k p g.within e q.0 ∙ onto_fuse r start len qs g.starts q.1 q.2 in
+      pub going_fuse : (n : CodeRun) → (1 ≤ r.len) × (held ≡ Some n) × (r.start + r.len ≡ n.start)
+          → Going w used runs v (k - 1) at (Some (fused r n))
+      unfolding Held others
+      going_fuse n (some, is, ends) = go qs g.first g.holds (left_onto runs k p g.within e some)
+        where
+          go : (ps : List Run) → Held ps held → Holds w used (others ps) v at → left runs (k - 1) ≡ fuse_onto (as_run r) ps → Going w used runs v (k - 1) at (Some (fused r n))
+          go [] h holds s = absurd (cc)
+          go (q ∷ ps) (t, h, same) holds s =
+              let run : t ≡ n = cc in
+              let as_n : q ≡ as_run n = same ∙ ap as_run run in
+              let o = s ∙ onto_fuse (as_run r) n q ps (ap (λ (x : Run). x.start) as_n) ends in
+              let f : left runs (k - 1) ≡ as_run (fused r n) ∷ ps = o ∙ ap (λ (x : Run). record { start = r.start; len = r.len + x.len } ∷ ps) as_n in
+              record {
+                within = omega (arith, g.within);
+                first = rw f (fused r n, refl, refl);
+                holds = rw f holds;
+              }
+
+      pub going_part : (1 ≤ r.len) × ((q : CodeRun) → held ≡ Some q → r.start + r.len ≡ q.start → ⊥) → {u : List ℕ} {z : ℕ}
+          → (z ≡ closed_at at held) × (u ≡ closed v used at held) → Going w used runs u (k - 1) z (Some r)
+      unfolding Held others
+      going_part (some, apart) y =
+          let s = left_onto runs k p g.within e some ∙ onto_part (as_run r) qs (held_starts qs held g.first) apart in
           record {
             within = omega (arith, g.within);
-            starts = rw s (refl, omega arith);
-            size = rw s (omega (arith, g.size));
-            holds = rw s g.holds;
-          }
-
-      pub going_part : (1 ≤ r.len) × (1 ≤ len → r.start + r.len ≡ start → ⊥) → {u : List ℕ} {z : ℕ}
-          → (z ≡ closed_at at len) × (u ≡ closed v used at start len) → Going w used runs u (k - 1) z r.start r.len
-      unfolding Starts first_len others
-      going_part q y =
-          let s = left_onto runs k p g.within e q.0 ∙ onto_part r start len qs g.starts q.1 in
-          record {
-            within = omega (arith, g.within);
-            starts = rw s (refl, q.0);
-            size = rw s refl;
+            first = rw s (r, refl, refl);
             holds = rw s (all_held y);
           }

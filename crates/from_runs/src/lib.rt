@@ -4,7 +4,7 @@
 
 ghost use Rattle.std.specs.Prelude.{◌≡◌, ◌≤◌, ◌&&◌, leb, length, drop};
 ghost use Rattle.term_spec.specs.Words.{AtMost, count, whole, records, write};
-ghost use Rattle.term_spec.specs.Term.{run_layout, runs_rule, run_list_limit};
+ghost use Rattle.term_spec.specs.Term.{run_layout, run_rule, runs_rule, run_list_limit};
 ghost use Rattle.view_spec.specs.Node.{node_layout};
 ghost use Rattle.view_spec.specs.Build.{chain, chain_head, total};
 ghost use Rattle.words.specs.Records.{as_run};
@@ -13,11 +13,11 @@ ghost use Rattle.from_runs.specs.FromRuns.{Stepped, head_at, closed, closed_at, 
 
 use words::Run;
 
-// What a run does before the runs after it: nothing, since it is empty; it is fused with the next; it stands by itself.
+// What a run does before the runs after it: nothing, since it is empty; it is fused with the next, which is this one; it stands by itself.
 #[derive(Clone, Copy)]
 pub enum Step {
     Skip,
-    Fuse,
+    Fuse(Run),
     Part,
 }
 
@@ -26,10 +26,15 @@ pub fn runs_even(runs: &[u32]) -> bool
     ensures { let words = runs.now in
         result ≡ whole run_layout words && leb (count run_layout words) run_list_limit }
 {
-    if runs.len() % words::RUN_WIDTH != 0 {
-        return false;
-    }
-    runs.len() / words::RUN_WIDTH <= words::RUN_LIST_LIMIT
+    runs.len() % words::RUN_WIDTH == 0 && runs.len() / words::RUN_WIDTH <= words::RUN_LIST_LIMIT
+}
+
+// Whether a run ends within so many terms.
+#[tactic(auto, using(std::proofs::lemmas::Bool::Decides::nat_tests), unfolding(term_spec::specs::Term::run_rule))]
+fn run_inside(r: Run, terms: usize) -> bool
+    ensures { result ≡ run_rule terms (as_run r) }
+{
+    r.len <= terms && r.start <= terms - r.len
 }
 
 // Whether every run, even an empty one, ends within so many terms.
@@ -37,18 +42,7 @@ pub fn runs_inside(runs: &[u32], terms: usize) -> bool
     ensures { result ≡ runs_rule terms (records run_layout runs.now) }
 {
     let n = runs.len() / words::RUN_WIDTH;
-    let mut i = 0;
-    while i < n {
-        let r = words::get::<Run>(runs, i);
-        if terms < r.len {
-            return false;
-        }
-        if terms - r.len < r.start {
-            return false;
-        }
-        i += 1;
-    }
-    true
+    (0..n).all(|i| run_inside(words::get::<Run>(runs, i), terms))
 }
 
 // The terms of the runs together.
@@ -58,84 +52,66 @@ pub fn runs_total(runs: &[u32]) -> usize
     ensures { result ≡ total (records run_layout runs.now) }
 {
     let n = runs.len() / words::RUN_WIDTH;
-    let mut i = 0;
-    let mut sum = 0;
-    while i < n {
-        let r = words::get::<Run>(runs, i);
-        sum += r.len;
-        i += 1;
-    }
-    sum
+    (0..n).map(|i| words::get::<Run>(runs, i).len).sum()
 }
 
-// What the run r does where the next run starts at `start`; there is none if `next` is 0.
-fn step_of(r: Run, next: usize, start: usize) -> Step
-    ensures { Stepped (as_run r) next start result }
+// What the run r does before the next one, if there is one, of which only the start is read.
+fn step_of(r: Run, next: Option<Run>) -> Step
+    ensures { Stepped (as_run r) next result }
 {
     if r.len == 0 {
         return Step::Skip;
     }
-    if next == 0 {
+    let Some(next) = next else {
         return Step::Part;
+    };
+    if r.start <= next.start && next.start - r.start == r.len {
+        return Step::Fuse(next);
     }
-    if start < r.start {
-        return Step::Part;
-    }
-    if start - r.start != r.len {
-        return Step::Part;
-    }
-    Step::Fuse
+    Step::Part
 }
 
 // How many nodes from_runs_build makes: the runs left when empty ones are skipped and neighbours fused.
 pub fn from_runs_makes(runs: &[u32]) -> usize
     ensures { result ≡ length (fused_in runs.now) }
 {
-    let mut i = runs.len() / words::RUN_WIDTH;
+    let n = runs.len() / words::RUN_WIDTH;
     let mut made: usize = 0;
-    let mut start: usize = 0;
-    while 0 < i {
-        i -= 1;
+    let mut next = None;
+    for i in (0..n).rev() {
         let r = words::get::<Run>(runs, i);
-        match step_of(r, made, start) {
-            Step::Skip => {
-                continue;
-            }
-            Step::Fuse => {
-                start = r.start;
-                continue;
-            }
+        match step_of(r, next) {
+            Step::Skip => {}
+            Step::Fuse(_) => next = Some(r),
             Step::Part => {
-                start = r.start;
+                next = Some(r);
                 made += 1;
-                continue;
             }
         }
     }
     made
 }
 
-// The node that the next Cons goes before: the last made from `used` on, 0 if none is made.
+// The node that the next Cons goes before: the last made from `used` on, and node 0, which is Nil, if none is made.
 fn tail(used: usize, at: usize) -> usize
     requires { used ≤ at }
     ensures { result ≡ head_at used at }
 {
-    if at == used {
-        return 0;
-    }
-    at - 1
+    if at == used { 0 } else { at - 1 }
 }
 
 // The Cons of the run that is held, if there is one, at `at`; hands back the used count after it.
-fn close(nodes: &mut [u32], used: usize, at: usize, start: usize, len: usize) -> usize
-    requires { Closes nodes.old used at start len }
-    ensures { (result ≡ closed_at at len) × (nodes.new ≡ closed nodes.old used at start len) }
+fn close(nodes: &mut [u32], used: usize, at: usize, held: Option<Run>) -> usize
+    requires { Closes nodes.old used at held }
+    ensures { (result ≡ closed_at at held) × (nodes.new ≡ closed nodes.old used at held) }
 {
-    if len == 0 {
-        return at;
+    match held {
+        None => at,
+        Some(r) => {
+            nodes::make_cons(nodes, at, r.start, r.len, tail(used, at));
+            at + 1
+        }
     }
-    nodes::make_cons(nodes, at, start, len, tail(used, at));
-    at + 1
 }
 
 // One Cons for each run left, made from the last run to the first; hands back the first Cons, 0 if there is none.
@@ -146,30 +122,25 @@ pub fn from_runs_build(nodes: &mut [u32], used: usize, runs: &[u32]) -> usize
         let after = chain fused (nodes_in before used) in
         (result ≡ chain_head fused after) × (nodes.new ≡ write node_layout before used (drop used after)) }
 {
-    let mut i = runs.len() / words::RUN_WIDTH;
+    let n = runs.len() / words::RUN_WIDTH;
     let mut at = used;
-    let mut start: usize = 0;
-    let mut len: usize = 0;
-    while 0 < i {
-        i -= 1;
+    let mut held = None;
+    for i in (0..n).rev() {
         let r = words::get::<Run>(runs, i);
-        match step_of(r, len, start) {
-            Step::Skip => {
-                continue;
-            }
-            Step::Fuse => {
-                start = r.start;
-                len += r.len;
-                continue;
+        match step_of(r, held) {
+            Step::Skip => {}
+            Step::Fuse(next) => {
+                held = Some(Run {
+                    start: r.start,
+                    len: r.len + next.len,
+                });
             }
             Step::Part => {
-                at = close(nodes, used, at, start, len);
-                start = r.start;
-                len = r.len;
-                continue;
+                at = close(nodes, used, at, held);
+                held = Some(r);
             }
         }
     }
-    at = close(nodes, used, at, start, len);
+    at = close(nodes, used, at, held);
     tail(used, at)
 }

@@ -17,7 +17,7 @@ use Rattle.nodes.specs.RuleLaws.{below_at}
 use Rattle.nodes.specs.MakeLaws.{any, good-any}
 use Rattle.nodes.specs.WriteLaws.{put-length, put-upto, put-below, put_here, put_above, put_later, written}
 use Rattle.nodes.specs.CompleteLaws.{child_known, Grows, snoc-grows, wrap-grows, wrap-same, made_last, Ready, ready}
-use Rattle.join.specs.Turn.{Turned, TurnedIn, plan_before, grown, Joins}
+use Rattle.join.specs.Turn.{Turned, TurnedIn, grown, Joins}
 use Rattle.join.specs.TurnLaws.{makes_base, makes_single, makes_double, rest_single, rest_double}
 use Rattle.join.specs.declared.Turn.{Turn}
 use Rattle.join.specs.declared.Turn.TheVariants.{Base, Single, Double}

@@ -1,13 +1,13 @@
 -- The turn at an unclamped node is the first step of its plan, by the tests that the code makes.
 use Rattle.std.specs.Prelude.{◌≡◌, refl, List, length, ℕ, suc, zero, ◌-◌, ◌<◌, ◌≤◌}
 use Rattle.std.proofs.Math.Path.{ap}
-use Rattle.std.proofs.Common.{sym, ◌∙◌, inl, inr, arith}
+use Rattle.std.proofs.Common.{sym, ◌∙◌, arith}
 use Prim.{tt}
 use Rattle.std.proofs.Math.Decide.{dec_le, dec_lt}
 use Rattle.term_spec.specs.Words.{record_at}
 use Rattle.term_spec.proofs.WordsLaws.{decode-length}
 use Rattle.view_spec.specs.Node.{Node, node_layout, concat_kind, node_at, GoodNodes, Piece}
-use Rattle.view_spec.proofs.NodeLaws.{ConcatAt, NodeAt, node_at_lem}
+use Rattle.view_spec.proofs.NodeLaws.{ConcatAt}
 use Rattle.view_spec.specs.Build.{if_dec, base, single, double, unclamp, plan, plan_makes}
 use Rattle.view_spec.proofs.PlanLaws.{left, left_len, right, inner_right, if_yes, if_no, unclamp_induct, unclamped, unclamp_over, inner_low, plan_leaf, plan-concat, second_turn}
 use Rattle.nodes.specs.NodeStore.{nodes_in, AnyStore}

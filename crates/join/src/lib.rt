@@ -10,13 +10,31 @@ ghost use Rattle.join.specs.Turn.{PieceIn, TurnedIn, grown, Joins};
 
 use words::Node;
 
-// One step of a join, from the top of the left down. Base: the first terms of a node, before the right. Single: the first terms of a node,
-// before the rest. Double: a head of a node's first terms and a further node, the first terms of that head, before the rest.
+// One step of a join, from the top of the left down.
 #[derive(Clone, Copy)]
 pub enum Turn {
-    Base(usize, usize),
-    Single(usize, usize, usize, usize),
-    Double(usize, usize, usize, usize, usize, usize),
+    // The last one: the first terms of a node, before the right.
+    Base {
+        node: usize,
+        len: usize,
+    },
+    // The first `size` terms of `left` before the rest, which is the first `len` terms of `node`.
+    Single {
+        left: usize,
+        size: usize,
+        node: usize,
+        len: usize,
+    },
+    // A head of the first `size` terms of `left` before `inner`; then the first `size + inner_size` terms of that head before the rest,
+    // which is the first `len` terms of `node`.
+    Double {
+        left: usize,
+        size: usize,
+        inner: usize,
+        inner_size: usize,
+        node: usize,
+        len: usize,
+    },
 }
 
 // The turn for the first len terms of a node, h being the right's height.
@@ -26,27 +44,37 @@ pub fn next_turn(nodes: &[u32], h: usize, node: usize, len: usize) -> Turn
 {
     let left = nodes::unclamp(nodes, node, len);
     let n = words::get::<Node>(nodes, left);
-    if n.kind != words::CONCAT {
-        return Turn::Base(left, len);
-    }
-    if n.height - 1 <= h {
-        return Turn::Base(left, len);
+    if n.kind != words::CONCAT || n.height - 1 <= h {
+        return Turn::Base { node: left, len };
     }
     let inner_left = words::get::<Node>(nodes, n.a);
     let inner_right = words::get::<Node>(nodes, n.c);
     let inner = len - n.b;
     if inner_right.height <= inner_left.height {
-        return Turn::Single(n.a, n.b, n.c, inner);
+        return Turn::Single {
+            left: n.a,
+            size: n.b,
+            node: n.c,
+            len: inner,
+        };
     }
     let middle = nodes::unclamp(nodes, n.c, inner);
     let m = words::get::<Node>(nodes, middle);
     if m.kind != words::CONCAT {
-        return Turn::Base(left, len);
+        return Turn::Base { node: left, len };
     }
-    Turn::Double(n.a, n.b, m.a, m.b, m.c, inner - m.b)
+    Turn::Double {
+        left: n.a,
+        size: n.b,
+        inner: m.a,
+        inner_size: m.b,
+        node: m.c,
+        len: inner - m.b,
+    }
 }
 
-// How many nodes a join makes: the turns counted, nothing written.
+// How many nodes a join makes: the turns counted, nothing written. One walk with a closure for both would be no plainer: this one
+// reads the nodes that the other writes.
 pub fn join_makes(nodes: &[u32], h: usize, node: usize, len: usize) -> usize
     requires { PieceIn nodes.now node len }
     ensures { let words = nodes.now in
@@ -58,16 +86,22 @@ pub fn join_makes(nodes: &[u32], h: usize, node: usize, len: usize) -> usize
     let mut made = 1;
     loop {
         match next_turn(nodes, h, at, n) {
-            Turn::Base(_, _) => {
-                return made;
-            }
-            Turn::Single(_, _, x, m) => {
-                made = made + 1;
+            Turn::Base { .. } => return made,
+            Turn::Single {
+                node: x,
+                len: m,
+                ..
+            } => {
+                made += 1;
                 at = x;
                 n = m;
             }
-            Turn::Double(_, _, _, _, x, m) => {
-                made = made + 2;
+            Turn::Double {
+                node: x,
+                len: m,
+                ..
+            } => {
+                made += 2;
                 at = x;
                 n = m;
             }
@@ -85,30 +119,41 @@ pub fn join_build(nodes: &mut [u32], used: usize, right: usize, node: usize, len
         let new = drop used (grown (nodes_in before used) right node len) in
         nodes.new ≡ write node_layout before used new }
 {
-    let r = words::get::<Node>(nodes, right);
-    let h = r.height;
+    let h = words::get::<Node>(nodes, right).height;
     let mut lo = used;
     let mut hi = end;
     let mut at = node;
     let mut n = len;
     loop {
         match next_turn(nodes, h, at, n) {
-            Turn::Base(l, m) => {
+            Turn::Base { node: l, len: m } => {
                 nodes::make_concat(nodes, lo, l, m, right);
                 nodes::complete(nodes, hi, end, lo);
                 return;
             }
-            Turn::Single(a, b, x, m) => {
-                hi = hi - 1;
-                nodes::reserve(nodes, hi, a, b, 0);
+            Turn::Single {
+                left,
+                size,
+                node: x,
+                len: m,
+            } => {
+                hi -= 1;
+                nodes::reserve(nodes, hi, left, size, 0);
                 at = x;
                 n = m;
             }
-            Turn::Double(a, b, c, d, x, m) => {
-                nodes::make_concat(nodes, lo, a, b, c);
-                hi = hi - 1;
-                nodes::reserve(nodes, hi, lo, b + d, 0);
-                lo = lo + 1;
+            Turn::Double {
+                left,
+                size,
+                inner,
+                inner_size,
+                node: x,
+                len: m,
+            } => {
+                nodes::make_concat(nodes, lo, left, size, inner);
+                hi -= 1;
+                nodes::reserve(nodes, hi, lo, size + inner_size, 0);
+                lo += 1;
                 at = x;
                 n = m;
             }

@@ -15,7 +15,7 @@ use Rattle.view_spec.proofs.NodeLaws.{nil_first, node-new, trans_grown, reach_li
 use Rattle.view_spec.proofs.ChainLaws.{last_snoc}
 use Rattle.view_spec.proofs.PlanLaws.{if_yes, if_no}
 use Rattle.view_spec.specs.Build.{last, make_concat, if_dec}
-use Rattle.nodes.specs.NodeStore.{nodes_in, NodeStore, AnyStore}
+use Rattle.nodes.specs.NodeStore.{nodes_in, AnyStore}
 use Rattle.nodes.specs.Complete.{child_of, make_over, wrap, completed, last_made, Completes, Became}
 use Rattle.nodes.specs.MakeLaws.{any, good-any, concat-at}
 use Rattle.nodes.specs.WriteLaws.{put-length, put-upto, put_above, put_later}
@@ -147,22 +147,6 @@ pub record Up (w : List ℕ) (end y : ℕ) (z : List Node) (v : List ℕ) (k x :
   pub after : drop (end * node_layout.width) v ≡ drop (end * node_layout.width) w
   pub nodes : completed v k end x ≡ z
   pub node : last_made k end x ≡ y
-
-pub up_start : (w : List ℕ) (from end before : ℕ) → Completes w from end before
-    → Up w end (last_made from end before) (completed w from end before) w from before
-up_start w from end before c = record {
-  terms = c.terms;
-  few_terms = c.few_terms;
-  some = c.some;
-  le = c.le;
-  few = c.few;
-  room = c.room;
-  good = c.good;
-  size = refl;
-  after = refl;
-  nodes = refl;
-  node = refl;
-}
 
 module _ {w : List ℕ} {end y : ℕ} {z : List Node} {v : List ℕ} {k x : ℕ} (u : Up w end y z v k x) where
   pub up_end : end ≤ k → (x ≡ y) × Became w v end z

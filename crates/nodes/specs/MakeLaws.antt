@@ -2,7 +2,7 @@
 use Rattle.std.specs.Prelude.{◌≡◌, refl, List, [], ◌∷◌, length, replicate, ℕ, suc, zero, ◌+◌, ◌<◌, ◌≤◌, min, max}
 use Rattle.std.proofs.Common.{◌∙◌, inl, inr, arith}
 use Rattle.std.proofs.lemmas.List.{length-replicate}
-use Rattle.std.proofs.Math.Decide.{dec_le}
+use Rattle.std.proofs.Math.Decide.{ℕ_discrete, dec_le}
 use Rattle.term_spec.specs.Words.{record_at, write}
 use Rattle.term_spec.specs.Term.{limit}
 use Rattle.term_spec.proofs.WordsLaws.{decode-length}
@@ -81,16 +81,18 @@ module _ (w : List ℕ) (terms used : ℕ) (s : NodeStore w terms used) where
   -- ---- unclamp ----
 
   module _ (i len : ℕ) {n : Node} (h : i < used) (e : n ≡ record_at node_layout w i) where
-    -- no Concat
-    pub unclamp_here : (n.kind ≡ concat_kind → ⊥) → unclamp (nodes_in w used) i len ≡ i
-    unclamp_here k = unclamp_leaf (nodes_in w used) i len (inside i h) (leaf_at terms (nodes_in w used) s.good i (inside i h) (rw (below_at w used i e h) at k))
+    -- no Concat, or one whose left is too short
+    pub unclamp_stop : (n.kind ≡ concat_kind → n.b < len) → unclamp (nodes_in w used) i len ≡ i
+    unclamp_stop short = go (ℕ_discrete n.kind concat_kind)
+      where
+        q : n ≡ node_at (nodes_in w used) i
+        q = below_at w used i e h
 
-    -- a Concat whose left is too short
-    pub unclamp-short : n.kind ≡ concat_kind → n.b < len → unclamp (nodes_in w used) i len ≡ i
-    unclamp-short k b =
-        let q = below_at w used i e h in
-        unclamp-concat (nodes_in w used) i len (inside i h) (concat-at terms (nodes_in w used) s.good i (inside i h) (rw q at k))
-        ∙ if_no (dec_le len (left_len (nodes_in w used) i)) _ _ (λ z. omega (arith, rw q at b))
+        go : Dec (n.kind ≡ concat_kind) → unclamp (nodes_in w used) i len ≡ i
+        go (yes k) =
+            unclamp-concat (nodes_in w used) i len (inside i h) (concat-at terms (nodes_in w used) s.good i (inside i h) (rw q at k))
+            ∙ if_no (dec_le len (left_len (nodes_in w used) i)) _ _ (λ z. omega (arith, rw q at (short k)))
+        go (no k) = unclamp_leaf (nodes_in w used) i len (inside i h) (leaf_at terms (nodes_in w used) s.good i (inside i h) (rw q at k))
 
     -- a Concat whose left is long enough: it is lower, and decides
     pub unclamp-left : n.kind ≡ concat_kind → len ≤ n.b → (n.a < i) × (unclamp (nodes_in w used) i len ≡ unclamp (nodes_in w used) n.a len)

@@ -14,46 +14,30 @@ ghost use Rattle.nodes.specs.Complete.{reserved, child_of, completed, last_made,
 
 use words::Node;
 
-fn larger(a: usize, b: usize) -> usize
-    ensures { result ≡ max a b }
-{
-    if a < b {
-        return b;
-    }
-    a
-}
-
+// The smaller of two.
 pub fn smaller(a: usize, b: usize) -> usize
     ensures { result ≡ min a b }
 {
-    if a < b {
-        return a;
-    }
-    b
+    a.min(b)
 }
 
 // ---- rules ----
 
-// Node i is Nil.
-fn nil_ok(i: usize, n: Node) -> bool
-    ensures { (below : List SpecNode) → length below ≡ i → result ≡ nil_rule below (as_node n) }
+// The only Nil.
+const NIL_NODE: Node = Node {
+    kind: words::NIL,
+    a: 0,
+    b: 0,
+    c: 0,
+    height: 0,
+    reach: 0,
+};
+
+// The reach of a node that has b terms before what is after it: at most the limit.
+fn reach_of(b: usize, after: usize) -> usize
+    ensures { result ≡ min limit (b + after) }
 {
-    if i != 0 {
-        return false;
-    }
-    if n.a != 0 {
-        return false;
-    }
-    if n.b != 0 {
-        return false;
-    }
-    if n.c != 0 {
-        return false;
-    }
-    if n.height != 0 {
-        return false;
-    }
-    n.reach == 0
+    words::LIMIT.min(b.saturating_add(after))
 }
 
 // Node i is a Cons within its rules, so many terms being used.
@@ -61,39 +45,11 @@ fn cons_ok(nodes: &[u32], terms: usize, i: usize, n: Node) -> bool
     requires { Lies node_layout nodes.now i }
     ensures { result ≡ cons_rule terms (nodes_in nodes.now i) (as_node n) }
 {
-    if n.b < 1 {
-        return false;
-    }
-    if terms < n.b {
-        return false;
-    }
-    if terms - n.b < n.a {
-        return false;
-    }
-    if i <= n.c {
+    if n.b < 1 || terms < n.b || terms - n.b < n.a || i <= n.c {
         return false;
     }
     let tail = words::get::<Node>(nodes, n.c);
-    if words::CONS < tail.kind {
-        return false;
-    }
-    if n.height != 1 {
-        return false;
-    }
-    reaches(n.reach, n.b, tail.reach)
-}
-
-// Whether a reach is the smaller of the limit and b plus what is after it.
-fn reaches(reach: usize, b: usize, after: usize) -> bool
-    ensures { result ≡ eqb reach (min limit (b + after)) }
-{
-    if words::LIMIT <= b {
-        return reach == words::LIMIT;
-    }
-    if words::LIMIT - b <= after {
-        return reach == words::LIMIT;
-    }
-    reach == b + after
+    tail.kind <= words::CONS && n.height == 1 && n.reach == reach_of(n.b, tail.reach)
 }
 
 // Node i is a Concat within its rules.
@@ -101,33 +57,18 @@ fn concat_ok(nodes: &[u32], i: usize, n: Node) -> bool
     requires { Lies node_layout nodes.now i }
     ensures { result ≡ concat_rule (nodes_in nodes.now i) (as_node n) }
 {
-    if i <= n.a {
-        return false;
-    }
-    if i <= n.c {
+    if i <= n.a || i <= n.c {
         return false;
     }
     let left = words::get::<Node>(nodes, n.a);
     let right = words::get::<Node>(nodes, n.c);
-    if left.kind == words::NIL {
-        return false;
-    }
-    if right.kind == words::NIL {
-        return false;
-    }
-    if n.b < 1 {
-        return false;
-    }
-    if left.reach < n.b {
-        return false;
-    }
-    if n.height < 1 {
-        return false;
-    }
-    if n.height - 1 != larger(left.height, right.height) {
-        return false;
-    }
-    reaches(n.reach, n.b, right.reach)
+    left.kind != words::NIL
+        && right.kind != words::NIL
+        && 1 <= n.b
+        && n.b <= left.reach
+        && 1 <= n.height
+        && n.height - 1 == left.height.max(right.height)
+        && n.reach == reach_of(n.b, right.reach)
 }
 
 // The rule of node i among those below it.
@@ -137,16 +78,12 @@ fn node_ok(nodes: &[u32], terms: usize, i: usize) -> bool
         result ≡ node_rule terms (nodes_in words i) (record_at node_layout words i) }
 {
     let n = words::get::<Node>(nodes, i);
-    if n.kind == words::NIL {
-        return nil_ok(i, n);
+    match n.kind {
+        words::NIL => i == 0 && n == NIL_NODE,
+        words::CONS => cons_ok(nodes, terms, i, n),
+        words::CONCAT => concat_ok(nodes, i, n),
+        _ => false,
     }
-    if n.kind == words::CONS {
-        return cons_ok(nodes, terms, i, n);
-    }
-    if n.kind == words::CONCAT {
-        return concat_ok(nodes, i, n);
-    }
-    false
 }
 
 // The rule of the used nodes, so many terms being used.
@@ -154,17 +91,7 @@ pub fn nodes_ok(nodes: &[u32], terms: usize, used: usize) -> bool
     requires { Lies node_layout nodes.now used }
     ensures { result ≡ nodes_rule terms (nodes_in nodes.now used) }
 {
-    if used < 1 {
-        return false;
-    }
-    let mut i = 0;
-    while i < used {
-        if !node_ok(nodes, terms, i) {
-            return false;
-        }
-        i += 1;
-    }
-    true
+    1 <= used && (0..used).all(|i| node_ok(nodes, terms, i))
 }
 
 // The rule of a field, given by its node and its length.
@@ -172,22 +99,10 @@ pub fn field_ok(nodes: &[u32], used: usize, node: usize, len: usize) -> bool
     requires { Lies node_layout nodes.now used }
     ensures { result ≡ field_rule (nodes_in nodes.now used) (record { node = node; len = len }) }
 {
-    if used <= node {
-        return false;
-    }
-    let n = words::get::<Node>(nodes, node);
-    len <= n.reach
+    node < used && len <= words::get::<Node>(nodes, node).reach
 }
 
 // ---- making nodes ----
-
-// The smaller of the limit and b plus what is after it.
-fn reach_of(b: usize, after: usize) -> usize
-    requires { (b ≤ limit) × (after ≤ limit) }
-    ensures { result ≡ min limit (b + after) }
-{
-    smaller(words::LIMIT, b + after)
-}
 
 // One more node: a Cons of the run (a, b) before tail c.
 pub fn make_cons(nodes: &mut [u32], used: usize, a: usize, b: usize, c: usize)
@@ -222,7 +137,7 @@ pub fn make_concat(nodes: &mut [u32], used: usize, a: usize, b: usize, c: usize)
         a,
         b,
         c,
-        height: 1 + larger(left.height, right.height),
+        height: 1 + left.height.max(right.height),
         reach: reach_of(b, right.reach),
     };
     words::put(nodes, used, n);
@@ -239,10 +154,7 @@ pub fn unclamp(nodes: &[u32], node: usize, len: usize) -> usize
     let mut at = node;
     loop {
         let n = words::get::<Node>(nodes, at);
-        if n.kind != words::CONCAT {
-            return at;
-        }
-        if n.b < len {
+        if n.kind != words::CONCAT || n.b < len {
             return at;
         }
         at = n.a;
@@ -271,10 +183,7 @@ pub fn reserve(nodes: &mut [u32], i: usize, a: usize, b: usize, c: usize)
 fn child(c: usize, before: usize) -> usize
     ensures { result ≡ child_of c before }
 {
-    if c == 0 {
-        return before;
-    }
-    c
+    if c == 0 { before } else { c }
 }
 
 // The reserved records from `from` to `end` become nodes, from the lowest to the highest: `before` is the node before the first. Hands back
@@ -284,13 +193,11 @@ pub fn complete(nodes: &mut [u32], from: usize, end: usize, before: usize) -> us
     ensures { let words = nodes.old in
         (result ≡ last_made from end before) × Became words nodes.new end (completed words from end before) }
 {
-    let mut at = from;
     let mut last = before;
-    while at < end {
+    for at in from..end {
         let n = words::get::<Node>(nodes, at);
         make_concat(nodes, at, child(n.a, last), n.b, child(n.c, last));
         last = at;
-        at += 1;
     }
     last
 }

@@ -10,7 +10,7 @@ ghost use Rattle.view_spec.specs.Node.{Node as SpecNode, node_layout};
 ghost use Rattle.words.specs.Records.{as_term, Small, as_node, SmallNode, as_run, SmallRun};
 
 // One term, its words widened.
-#[derive(Clone, Copy)]
+#[derive(Clone, Copy, Debug, PartialEq, Eq)]
 pub struct Term {
     pub kind: usize,
     pub a: usize,
@@ -20,7 +20,7 @@ pub struct Term {
 }
 
 // One node, its words widened.
-#[derive(Clone, Copy)]
+#[derive(Clone, Copy, Debug, PartialEq, Eq)]
 pub struct Node {
     pub kind: usize,
     pub a: usize,
@@ -31,7 +31,7 @@ pub struct Node {
 }
 
 // A run of terms: its start and its length, widened.
-#[derive(Clone, Copy)]
+#[derive(Clone, Copy, Debug, PartialEq, Eq)]
 pub struct Run {
     pub start: usize,
     pub len: usize,
