@@ -1,5 +1,5 @@
 // The walk as a listing starts it: over a settled run, from the start's entries, with words for what comparing finds.
-ghost use Rattle.std.specs.Prelude.{◌≡◌, map, ◌+◌, ◌*◌, ◌<◌, ◌≤◌, length};
+ghost use Rattle.std.specs.Prelude.{◌≡◌, map, ◌+◌, ◌*◌, ◌^◌, ◌<◌, ◌≤◌, length};
 ghost use Rattle.term_spec.specs.Words.{count, records};
 ghost use Rattle.match_spec.specs.Pattern.{binding_layout, bound_run, name_limit};
 ghost use Rattle.equality.specs.Memory.{Memory};
@@ -75,16 +75,16 @@ fn walk_with(
     )
 }
 
-// Words for what comparing finds, by the size of the store: to clear more than are needed would take longer than a small listing. The functions that
-// have many never call themselves; that they could keeps the compiler from copying them, and their stack, into their caller, which has to touch each
-// page of its stack at every call.
+// Words for what comparing finds, by the size of the store: to clear more than are needed would take longer than a small listing.
 const NONE: usize = 1;
 
 const SMALL: usize = 256;
 
 const MIDDLE: usize = 4096;
 
-fn walk_keeping_none(
+// The walk with N words for what comparing finds. Not copied into its caller, which would have to touch each page of their stack at every call.
+#[inline(never)]
+fn walk_keeping<const N: usize>(
     names: &[u8],
     terms: &[u32],
     used: usize,
@@ -95,93 +95,16 @@ fn walk_keeping_none(
     g: Goal,
     slots: &mut [u32],
 ) -> Tally
-    requires { let given = given_of names.now terms.now used pattern.now numbers.now in
+    requires fits { N < 2 ^ 32 }
+    requires can_start { let given = given_of names.now terms.now used pattern.now numbers.now in
         CanStart given bindings.now run g slots.old }
     ensures { let given = given_of names.now terms.now used pattern.now numbers.now in
         Started given bindings.now run g result slots.old slots.new }
 {
-    let mut known = [0u16; NONE];
+    let mut known = [0u16; N];
     walk_with(
         names, terms, used, pattern, numbers, bindings, run, g, slots, &mut known,
     )
-}
-
-fn walk_keeping_few(
-    names: &[u8],
-    terms: &[u32],
-    used: usize,
-    pattern: &[u32],
-    numbers: &[u32],
-    bindings: &[u32],
-    run: Run,
-    g: Goal,
-    slots: &mut [u32],
-) -> Tally
-    requires { let given = given_of names.now terms.now used pattern.now numbers.now in
-        CanStart given bindings.now run g slots.old }
-    ensures { let given = given_of names.now terms.now used pattern.now numbers.now in
-        Started given bindings.now run g result slots.old slots.new }
-{
-    let mut known = [0u16; SMALL];
-    walk_with(
-        names, terms, used, pattern, numbers, bindings, run, g, slots, &mut known,
-    )
-}
-
-fn walk_keeping_more(
-    names: &[u8],
-    terms: &[u32],
-    used: usize,
-    pattern: &[u32],
-    numbers: &[u32],
-    bindings: &[u32],
-    run: Run,
-    g: Goal,
-    slots: &mut [u32],
-) -> Tally
-    requires { let given = given_of names.now terms.now used pattern.now numbers.now in
-        CanStart given bindings.now run g slots.old }
-    ensures { let given = given_of names.now terms.now used pattern.now numbers.now in
-        Started given bindings.now run g result slots.old slots.new }
-{
-    let mut known = [0u16; MIDDLE];
-    let tally = walk_with(
-        names, terms, used, pattern, numbers, bindings, run, g, slots, &mut known,
-    );
-    if used < run.start {
-        return walk_keeping_more(
-            names, terms, used, pattern, numbers, bindings, run, g, slots,
-        );
-    }
-    tally
-}
-
-fn walk_keeping_all(
-    names: &[u8],
-    terms: &[u32],
-    used: usize,
-    pattern: &[u32],
-    numbers: &[u32],
-    bindings: &[u32],
-    run: Run,
-    g: Goal,
-    slots: &mut [u32],
-) -> Tally
-    requires { let given = given_of names.now terms.now used pattern.now numbers.now in
-        CanStart given bindings.now run g slots.old }
-    ensures { let given = given_of names.now terms.now used pattern.now numbers.now in
-        Started given bindings.now run g result slots.old slots.new }
-{
-    let mut known = [0u16; equality::MEMORY];
-    let tally = walk_with(
-        names, terms, used, pattern, numbers, bindings, run, g, slots, &mut known,
-    );
-    if used < run.start {
-        return walk_keeping_all(
-            names, terms, used, pattern, numbers, bindings, run, g, slots,
-        );
-    }
-    tally
 }
 
 // How many records of a pattern are variables.
@@ -221,22 +144,22 @@ pub fn walk_from(
         Started given bindings.now run g result slots.old slots.new }
 {
     if used < SMALL {
-        return walk_keeping_few(
+        return walk_keeping::<SMALL>(
             names, terms, used, pattern, numbers, bindings, run, g, slots,
         );
     }
     let given = bindings.len() / items::BINDING_WIDTH;
     if given + variables(pattern) == g.entries {
-        return walk_keeping_none(
+        return walk_keeping::<NONE>(
             names, terms, used, pattern, numbers, bindings, run, g, slots,
         );
     }
     if used < MIDDLE {
-        return walk_keeping_more(
+        return walk_keeping::<MIDDLE>(
             names, terms, used, pattern, numbers, bindings, run, g, slots,
         );
     }
-    walk_keeping_all(
+    walk_keeping::<{ equality::MEMORY }>(
         names, terms, used, pattern, numbers, bindings, run, g, slots,
     )
 }

@@ -7,7 +7,9 @@ use Rattle.std.proofs.Math.Numerals.{add-one}
 use Rattle.term_spec.specs.Words.{decode, record_at}
 use Rattle.term_spec.proofs.WordsLaws.{decode-at, decode-below, decode-length, decode-snoc}
 use Rattle.term_spec.specs.Term.{Run, no_run, run_layout}
-use Rattle.words.specs.RecordLaws.{run_read}
+use Rattle.term_spec.specs.Words.{Lies, write}
+use Rattle.term_spec.proofs.WordsLaws.{run_lays}
+use Rattle.words.specs.RecordLaws.{run_read, record_written}
 use Rattle.steps.specs.State.{stack_of, Restores}
 
 -- Run i is its two words.
@@ -40,6 +42,12 @@ entries_kept w (suc n) i v h =
     decode-snoc run_layout n (set w i v)
     ∙ ap₂ (λ x y. x ++ (y ∷ [])) (entries_kept w n i v (omega arith)) (run-kept w n i v (omega arith))
     ∙ sym (decode-snoc run_layout n w)
+
+-- A run written is two words.
+pub run_written : (w : List ℕ) (i : ℕ) (r : Run) → Lies run_layout w (i + 1) → write run_layout w i (r ∷ []) ≡ set (set w (2 * i) r.start) (2 * i + 1) r.len
+run_written w i r h =
+    let e : 2 * i ≡ i * 2 = omega arith in
+    rw e (sym (record_written run_layout run_lays w i r h))
 
 -- Two words written are a run.
 module _ (w : List ℕ) (i a b : ℕ) (h : 2 * i + 1 < length w) where
