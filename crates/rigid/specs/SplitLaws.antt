@@ -1,6 +1,9 @@
 -- Laws of the splits where a rigid run fits: where its first record cannot fit the run does not, and the first split that fits is found by
 -- passing over those that do not.
 use Rattle.std.specs.Prelude.{◌≡◌, refl, List, Bool, true, false, eqb, length, get_or, drop, ℕ, ◌+◌, ◌-◌, ◌/◌, ◌<◌, ◌≤◌}
+use Rattle.std.specs.Prelude.{Option, Some, None}
+use Rattle.std.specs.Bool.{⊤}
+use Rattle.std.specs.Option.{MatchOption, unwrap_or}
 use Rattle.std.proofs.Common.{sym, ap, subst, ◌∙◌, eq-eqb, ne_eqb, arith}
 use Rattle.std.proofs.Math.Decide.{ℕ_discrete, dec_lt}
 use Rattle.term_spec.specs.Words.{decode, record_at, count}
@@ -9,7 +12,7 @@ use Rattle.match_spec.specs.Pattern.{Item, item_layout}
 use Rattle.value.specs.Equal.{spec_equal_symbols}
 use Rattle.value.specs.EqualLaws.{symbols_differ, symbols_apart}
 use Rattle.steps.specs.declared.State.{State}
-use Rattle.steps.specs.State.{pattern_in}
+use Rattle.steps.specs.State.{pattern_in, back_of}
 use Rattle.items.specs.Records.{term_of_item}
 use Rattle.steps.specs.PatternAtLaws.{pattern_at}
 use Rattle.rigid.specs.Fit.{fits_at, split_fits, fits_term, Apart, kinds, chars, ApartAt, FirstFit}
@@ -48,6 +51,13 @@ module _ (t : Item) (u v : Term) (at : u ≡ v) where
 -- What holds from `from` on below i, and of i, holds below i + 1.
 pub from_more : (P : ℕ → Type 0) (from i : ℕ) → ((h : ℕ) → from ≤ h → h < i → P h) → P i → (h : ℕ) → from ≤ h → h < i + 1 → P h
 from_more P from i all one h a b = elim (dec_lt h i) [ yes l ↦ all h a l | no l ↦ let e : i ≡ h = omega arith in subst P e one ]
+
+-- Where the first i in a range that does not have P is looked for, all that are passed have it.
+pub begun : (P : ℕ → Type 0) (from end : ℕ) (r : Option ℕ) {u : ℕ} → from ≤ end
+    → MatchOption r ((k : ℕ) → from ≤ k → k < end → P k) (λ i. (from ≤ i) × (i < end) × ⊤ × ((k : ℕ) → from ≤ k → k < i → P k)) → u ≡ unwrap_or r end
+    → (from ≤ u) × (u ≤ end) × ((i : ℕ) → from ≤ i → i < u → P i)
+begun P from end None h m e = rw e (h, omega arith, m)
+begun P from end (Some i) h m e = rw e (m.0, omega (arith, m.1), m.3)
 
 -- The run from record p on does not fit at a split where record p cannot.
 pub split_apart : (names w : List ℕ) (used : ℕ) (pattern numbers : List ℕ) (p m : ℕ) (binds : List ℕ) (r : Run) → 1 ≤ r.len → r.start + r.len ≤ used
@@ -105,5 +115,15 @@ module _ {f : ℕ → Bool} {k n : ℕ} where
     pub first_found : j ≤ n → f j ≡ true → FirstFit f k n j
     first_found a e = record { low = o.low; high = o.high; passed = o.none; fits = λ h. e }
 
-    pub first_none : n < j → FirstFit f k n j
-    first_none a = record { low = o.low; high = o.high; passed = o.none; fits = λ h. absurd (omega arith) }
+    pub first_none : n < j → FirstFit f k n (n + 1)
+    first_none a = let e : j ≡ n + 1 = omega (arith, o.high) in
+        record { low = omega (arith, o.low); high = omega arith; passed = λ i x y. o.none i x (omega arith); fits = λ h. absurd (omega arith) }
+
+-- The splits where record p cannot begin fail too.
+pub passed_apart : (names w : List ℕ) (used : ℕ) (pattern numbers : List ℕ) (p m : ℕ) (binds : List ℕ) (r : Run) {k j : ℕ} → r.start + r.len ≤ used
+    → Passed (split_fits names w used pattern numbers p m binds r) k r.len j
+    → (i : ℕ) → (j ≤ i) × (i ≤ r.len) × ((h : ℕ) → j ≤ h → h < i → ApartAt w pattern p (r.start + h))
+    → Passed (split_fits names w used pattern numbers p m binds r) k r.len i
+passed_apart names w used pattern numbers p m binds r inside o i n =
+    passed-more o i n.0 (omega (arith, n.1))
+    (λ h x y. split_apart names w used pattern numbers p m binds (back_of h r) (omega (arith, n.1)) (omega (arith, n.1, inside)) (n.2 h x y))
