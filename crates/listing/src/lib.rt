@@ -13,7 +13,7 @@ ghost use Rattle.view.specs.Check.{as_field, store_of, numbered};
 ghost use Rattle.matcher.specs.Ready.{status_of, wanted_of};
 ghost use Rattle.listing.specs.Match.{matched_of, leaves_slots, request_of, even_words, refused_to8};
 
-use matcher::{Goal, Tally, status};
+use matcher::{Goal, Status, Tally};
 use view::Field;
 use view_read::Settled;
 use words::refusal;
@@ -121,18 +121,13 @@ fn answer(t: Tally, names: usize) -> Matched
     ensures { let status = status_of t.stop in
         ((w : List (List SpecRun)) → length w ≡ t.count → matched_of result ≡ match_answer (number_of status w) t.count names) }
 {
-    if t.stop == status::FULL {
-        return Matched::More(t.count, names);
+    match t.stop {
+        Status::Full => Matched::More(t.count, names),
+        Status::Called => Matched::Refused(refusal::CALLS_ARE_NOT_PATTERNS),
+        Status::Going if t.count == 0 => Matched::Refused(refusal::NO_MATCH),
+        Status::Going => Matched::Listed(t.count, names),
+        Status::Done => Matched::Listed(t.count, names),
     }
-    if status::CALLED <= t.stop {
-        return Matched::Refused(refusal::CALLS_ARE_NOT_PATTERNS);
-    }
-    if t.stop == status::GOING {
-        if t.count == 0 {
-            return Matched::Refused(refusal::NO_MATCH);
-        }
-    }
-    Matched::Listed(t.count, names)
 }
 
 // The candidates of a pattern over a field, or the head of their list.

@@ -7,8 +7,8 @@ ghost use Rattle.steps.specs.State.{entries_in, EntryRoom};
 ghost use Rattle.matcher.specs.Ready.{given_of};
 ghost use Rattle.listing.specs.Match.{CanStart, Started};
 
-use items::Item;
-use matcher::{Goal, Tally, status};
+use items::{Binding, Item};
+use matcher::{Goal, Status, Tally};
 use steps::State;
 use words::Run;
 
@@ -18,12 +18,13 @@ fn start(bindings: &[u32], binds: &mut [u32])
     ensures { let bindings = bindings.entry.now in
         entries_in (count binding_layout bindings) binds.new ≡ map bound_run (records binding_layout bindings) }
 {
-    let n = bindings.len() / items::BINDING_WIDTH;
-    let mut i = 0;
-    while i < n {
-        binds[2 * i] = bindings[5 * i + 3];
-        binds[2 * i + 1] = bindings[5 * i + 4];
-        i += 1;
+    for i in 0..bindings.len() / items::BINDING_WIDTH {
+        let b = words::get::<Binding>(bindings, i);
+        let run = Run {
+            start: b.start,
+            len: b.len,
+        };
+        words::put(binds, i, run);
     }
 }
 
@@ -55,7 +56,7 @@ fn walk_with(
         bound: bindings.len() / items::BINDING_WIDTH,
     };
     let none = Tally {
-        stop: status::GOING,
+        stop: Status::Going,
         count: 0,
     };
     matcher::walk(
@@ -111,17 +112,12 @@ fn walk_keeping<const N: usize>(
 fn variables(pattern: &[u32]) -> usize
     ensures { result ≤ length pattern.now }
 {
-    let n = pattern.len() / items::ITEM_WIDTH;
     let mut count = 0;
-    let mut i = 0;
-    while i < n {
+    for i in 0..pattern.len() / items::ITEM_WIDTH {
         let t = words::get::<Item>(pattern, i);
         if pattern::is_variable(t.kind) {
             count += 1;
-            i += 1;
-            continue;
         }
-        i += 1;
     }
     count
 }
