@@ -95,10 +95,6 @@ module _ {v : Given} {p m : ℕ} {s : Place} (y : Ready v p m s) where
   pub depth_room : 2 * s.depth + 2 ≤ length s.levels
   depth_room = omega (arith, ready_stands.depth, y.level-room)
 
-  -- the number of a record that is there
-  pub number_there : p < count item_layout v.pattern → p < length v.numbers
-  number_there h = omega (arith, y.pattern.numbered)
-
   -- at the end of the pattern
   module _ (e : count item_layout v.pattern ≤ p) where
     ended : pattern_from v p ≡ []

@@ -40,18 +40,6 @@ module _ (names w : List ℕ) (used i : ℕ) (t : Item) (lt : i < used) (low : t
       go (yes e) = sym (ne_eqb (record_at term_layout w i).kind 3 (bracket_apart t (record_at term_layout w i) e apart)) ∙ term_bracket names w used i t (record_at term_layout w i) lt refl e
       go (no n) = term_literal names w used i t (record_at term_layout w i) lt refl (omega arith) (literal_apart names t (record_at term_layout w i) (omega arith) apart)
 
--- Why a run may not begin at a term, exit by exit of the code.
-module _ (t : Item) (u v : Term) (at : u ≡ v) where
-  pub begin_kinds : eqb u.kind t.kind ≡ false → Apart t v
-  begin_kinds b = subst (Apart t) at (kinds (λ q. let y : true ≡ false = sym (eq-eqb u.kind t.kind q) ∙ b in let x : ◌≡◌ {A = ℕ} 0 1 = cc in omega arith))
-
-  pub begin_chars : t.kind ≡ 0 → (u.a ≡ t.a → ⊥) → Apart t v
-  begin_chars z n = subst (Apart t) at (chars z n)
-
--- What holds from `from` on below i, and of i, holds below i + 1.
-pub from_more : (P : ℕ → Type 0) (from i : ℕ) → ((h : ℕ) → from ≤ h → h < i → P h) → P i → (h : ℕ) → from ≤ h → h < i + 1 → P h
-from_more P from i all one h a b = elim (dec_lt h i) [ yes l ↦ all h a l | no l ↦ let e : i ≡ h = omega arith in subst P e one ]
-
 -- Where the first i in a range that does not have P is looked for, all that are passed have it.
 pub begun : (P : ℕ → Type 0) (from end : ℕ) (r : Option ℕ) {u : ℕ} → from ≤ end
     → MatchOption r ((k : ℕ) → from ≤ k → k < end → P k) (λ i. (from ≤ i) × (i < end) × ⊤ × ((k : ℕ) → from ≤ k → k < i → P k)) → u ≡ unwrap_or r end

@@ -26,7 +26,7 @@ use Rattle.steps.specs.declared.Turned.{Turned}
 use Rattle.steps.specs.declared.Turned.TheVariants.{Next}
 use Rattle.steps.specs.Turn.{Turn, stop, next, split, called, turn_if, turn_enter, turn_leave, turn_bind, turn_spread, turn_top, turn}
 use Rattle.steps.specs.State.{cells_in, back_of, stack_of, spec_place_of, levels_of, entries_of, entries_in, turn_of, Known, Place, Stands, LevelsKept}
-use Rattle.steps.specs.State.{EndsApart, renamed, coded, coded_all, Fine}
+use Rattle.steps.specs.State.{renamed, coded, coded_all, Fine}
 use Rattle.steps.specs.ArrayLaws.{restores-same, restores-two}
 use Rattle.steps.specs.CellLaws.{if_yes, if_no, literal_value, enter_no, enter_yes, takes_record, cells_size, first_none, first_some, empty_yes, empty_no}
 use Rattle.steps.specs.CellLaws.{begins_yes, begins_no, begins_long, run_begins, run_differs}
@@ -341,20 +341,6 @@ module _ (names : List ℕ) (t : Item) (x : ℕ) where
     pub turn_call : 8 ≤ t.kind → called ≡ turn_in names w used (coded names t x) last ls env
     unfolding turn
     turn_call l = rw (coded_call l) refl
-
--- ---- a known e-variable that ends its level ----
-
-pub apart_never : {A : Type 0} → false ≡ true → A
-apart_never e = let x : ◌≡◌ {A = ℕ} 0 1 = cc in absurd (omega arith)
-
-pub ends-apart : (kind x : ℕ) (last : Bool) (bound len : ℕ) (w : List ℕ) (e : Run) → kind ≡ 7 → last ≡ true → x < bound → e ≡ get_or (entries_in bound w) x no_run
-    → eqb e.len len ≡ false → EndsApart kind x last bound len w
-ends-apart kind x last bound len w e m l k q n = record {
-  many = m;
-  ends = l;
-  known = k;
-  apart = λ z. let y : false ≡ true = sym n ∙ eq-eqb e.len len (ap (λ (r : Run). r.len) q ∙ z) in apart_never y;
-}
 
 -- ---- the end of a level ----
 
