@@ -1,5 +1,5 @@
 -- A candidate goes into the next slot of a listing, or finds no slot left.
-use Rattle.std.specs.Prelude.{◌≡◌, List, [], ◌∷◌, ◌++◌, Bool, true, false, length, get_or, set, take, drop, ℕ, suc, zero, ◌+◌, ◌-◌, ◌*◌, ◌≤◌, ◌<◌}
+use Rattle.std.specs.Prelude.{◌≡◌, List, [], ◌∷◌, ◌++◌, Bool, true, false, length, take, drop, ℕ, suc, zero, ◌+◌, ◌-◌, ◌*◌, ◌≤◌, ◌<◌}
 use Rattle.std.proofs.Math.Path.{refl, ap, sym}
 use Rattle.std.proofs.Common.{ap₂, ◌∙◌, append_assoc, length-drop, length-take-le, take_at, add-one, arith, suc-mul, mul-le-mul_right}
 use Rattle.std.proofs.Math.Seq.{paste}

@@ -1,5 +1,5 @@
 -- What the walk in code asks for and leaves, and how its tally and the slots' words stand for the progress of the specification.
-use Rattle.std.specs.Prelude.{◌≡◌, List, Bool, true, false, length, drop, ℕ, suc, zero, ◌+◌, ◌*◌, ◌<◌, ◌≤◌}
+use Rattle.std.specs.Prelude.{◌≡◌, List, Bool, true, false, length, drop, ℕ, ◌+◌, ◌*◌, ◌<◌, ◌≤◌}
 use Rattle.term_spec.specs.Words.{count}
 use Rattle.term_spec.specs.Term.{Run, limit, run_layout}
 use Rattle.match_spec.specs.Element.{Element}

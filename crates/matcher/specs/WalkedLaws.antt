@@ -1,8 +1,8 @@
 -- Laws of the walk in code: what a record's turn brings, where the walk may go on, and what each exit leaves.
-use Rattle.std.proofs.Math.Path.{◌≡◌, ap, ap₂, subst}
+use Rattle.std.proofs.Math.Path.{◌≡◌, ap, subst}
 use Rattle.std.specs.Prelude.{refl, List, [], ◌∷◌, Bool, T, get_or, ℕ, suc, zero, ◌+◌, ◌*◌, ◌/◌, ◌<◌, ◌≤◌, max}
 use Rattle.std.proofs.Common.{sym, ◌∙◌, arith}
-use Rattle.std.proofs.Math.ListN.{length, set}
+use Rattle.std.proofs.Math.ListN.{length}
 use Rattle.term_spec.proofs.ListLaws.{All}
 use Rattle.term_spec.specs.Words.{Lies, decode, record_at, write, count}
 use Rattle.term_spec.proofs.WordsLaws.{decode-length}

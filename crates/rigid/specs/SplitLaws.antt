@@ -1,10 +1,10 @@
 -- Laws of the splits where a rigid run fits: where its first record cannot fit the run does not, and the first split that fits is found by
 -- passing over those that do not.
-use Rattle.std.specs.Prelude.{◌≡◌, refl, List, Bool, true, false, eqb, length, get_or, drop, ℕ, ◌+◌, ◌-◌, ◌/◌, ◌<◌, ◌≤◌}
+use Rattle.std.specs.Prelude.{◌≡◌, refl, List, Bool, true, false, length, get_or, drop, ℕ, ◌+◌, ◌-◌, ◌/◌, ◌<◌, ◌≤◌}
 use Rattle.std.specs.Prelude.{Option, Some, None}
 use Rattle.std.specs.Bool.{⊤}
 use Rattle.std.specs.Option.{MatchOption, unwrap_or}
-use Rattle.std.proofs.Common.{sym, ap, subst, ◌∙◌, eq-eqb, ne_eqb, arith}
+use Rattle.std.proofs.Common.{sym, ap, subst, ◌∙◌, ne_eqb, arith}
 use Rattle.std.proofs.Math.Decide.{ℕ_discrete, dec_lt}
 use Rattle.term_spec.specs.Words.{decode, record_at, count}
 use Rattle.term_spec.specs.Term.{Term, Run, term_layout}

@@ -218,6 +218,7 @@ pub fn next_split(
         FirstOf (fits s.bound binds.now (left_of s)) k s.len result
         × Memory names.now terms.now used known.new }
 {
+    // Counted by hand, since a turn passes over as many splits as `skip_apart` says.
     let mut j = k;
     while j <= s.len {
         j = skip_apart(terms, pattern, p, s, j);

@@ -1,7 +1,7 @@
 -- What a record does at a place, exit by exit of the code: r is the innermost level, st the levels around it, env the entries.
 use Rattle.std.specs.Prelude.{◌≡◌, List, [], ◌∷◌, ◌++◌, Bool, true, false, T, eqb, set, drop}
 use Rattle.std.proofs.Math.Path.{refl, ap, sym}
-use Rattle.std.proofs.Common.{ap₂, subst, ◌∙◌, eq-eqb, ne_eqb}
+use Rattle.std.proofs.Common.{ap₂, subst, ◌∙◌, ne_eqb}
 use Rattle.std.proofs.Math.ListN.{length, get_or, drop_of_length-le}
 use Rattle.std.proofs.Math.Seq.{drop-cons}
 use Prim.Native.Nat.{ℕ, suc, zero, ◌+◌, ◌-◌, ◌*◌, ◌/◌, ◌<◌, ◌≤◌}

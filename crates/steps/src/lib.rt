@@ -258,6 +258,7 @@ pub fn turn(
         × (entries_in s.bound binds.new ≡ entries_in s.bound binds.old)
         × Memory names.now terms.now used known.new }
 {
+    // The kinds are numbers, as the lent words have them, and in order: one test tells literals, one the variables of one term.
     if t.kind < items::OPEN {
         return turn_literal(names, terms, t, s);
     }

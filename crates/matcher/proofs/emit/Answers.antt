@@ -2,7 +2,7 @@
 use Rattle.std.proofs.Common.{◌≡◌, ◌≤◌, length, arith}
 use Rattle.match_spec.specs.Answer.{after_one}
 use Rattle.matcher.specs.Ready.{status_of, wanted_of, slot_words}
-use Rattle.matcher.specs.EmitLaws.{slot_within, pasted, stop_head, stop_all, emit_full, emit_written}
+use Rattle.matcher.specs.EmitLaws.{pasted, stop_head, stop_all, emit_full, emit_written}
 use Rattle.matcher.proofs.emit.Goals as goal
 use Rattle.matcher.proofs.emit.Goals.{then-g, else-g}
 

@@ -1,6 +1,5 @@
 -- `rigid::fit_record`: each exit is one law of a record of the run.
 use Rattle.std.proofs.Common.{arith}
-use Rattle.steps.specs.State.{RunReady}
 use Rattle.steps.specs.StepLaws.{entry_in}
 use Rattle.rigid.specs.FitLaws.{fit_close, fit_call, fit_open, fit_long, fit_differs, fit_equals, fit_none, fit_not, fit_one}
 use Rattle.rigid.proofs.fit_record.Goals as goal

@@ -1,7 +1,7 @@
 -- `rigid::rigid_run_matches`: each exit is one law of what is left of the run.
 use Rattle.std.proofs.Common.{arith}
 use Rattle.term_spec.specs.Words.{count}
-use Rattle.rigid.specs.FitLaws.{taken_in, left-first, left_end, left_item, left_skipped, left_no, left-ends, left-takes}
+use Rattle.rigid.specs.FitLaws.{left-first, left_end, left_item, left_skipped, left_no, left-ends, left-takes}
 use Rattle.rigid.proofs.rigid_run_matches.Goals as goal
 
 pub loop-i-init : goal.loop-i-init
