@@ -9,7 +9,8 @@ use Rattle.match_spec.specs.Answer.{Status as SpecStatus, going, done, full, cal
 use Rattle.calls_spec.specs.Demand3.{read_slots}
 use Rattle.value.specs.Equal.{TermStore}
 use Rattle.steps.specs.Turn.{onward}
-use Rattle.steps.specs.State.{Place, store_runs, level_of, stack_of, levels_of, entries_of, entries_in, turn_of, pattern_in, LevelRoom, EntryRoom, Restores, PatternReady}
+use Rattle.steps.specs.State.{Place, store_runs, level_of, stack_of, levels_of, entries_of, entries_in}
+use Rattle.steps.specs.State.{turn_of, pattern_in, LevelRoom, EntryRoom, Restores, PatternReady}
 use Rattle.steps.specs.Stays.{Stays, Kept, Grows}
 use Rattle.steps.specs.declared.State.{State}
 use Rattle.steps.specs.declared.Turned.{Turned}

@@ -250,6 +250,7 @@ module _ {v : Given} {p : ℕ} {s : Place} {m : Turned} {lv bd : List ℕ} (k : 
         → last ≡ write run_layout levels s.depth (record_at run_layout s.levels s.depth ∷ []) → Walked g (events_from v p s) f r before after s last binds
     next_walked e room h q = record {
       written = written_same (turn_next e) h.written;
-      levels-same = q ∙ ap (λ l. write run_layout l s.depth (record_at run_layout s.levels s.depth ∷ [])) h.levels-same ∙ restored s.depth s.levels lv k.back room;
+      levels-same = q ∙ ap (λ l. write run_layout l s.depth (record_at run_layout s.levels s.depth ∷ [])) h.levels-same
+          ∙ restored s.depth s.levels lv k.back room;
       entries_same = entries_fewer _ bd s.bound a.bound (next_grows e) h.entries_same ∙ k.entries_same;
     }

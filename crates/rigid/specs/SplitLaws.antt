@@ -42,7 +42,8 @@ module _ (names w : List ℕ) (used i : ℕ) (t : Item) (lt : i < used) (low : t
 
 -- Where the first i in a range that does not have P is looked for, all that are passed have it.
 pub begun : (P : ℕ → Type 0) (from end : ℕ) (r : Option ℕ) {u : ℕ} → from ≤ end
-    → MatchOption r ((k : ℕ) → from ≤ k → k < end → P k) (λ i. (from ≤ i) × (i < end) × ⊤ × ((k : ℕ) → from ≤ k → k < i → P k)) → u ≡ unwrap_or r end
+    → MatchOption r ((k : ℕ) → from ≤ k → k < end → P k) (λ i. (from ≤ i) × (i < end) × ⊤ × ((k : ℕ) → from ≤ k → k < i → P k))
+    → u ≡ unwrap_or r end
     → (from ≤ u) × (u ≤ end) × ((i : ℕ) → from ≤ i → i < u → P i)
 begun P from end None h m e = rw e (h, omega arith, m)
 begun P from end (Some i) h m e = rw e (m.0, omega (arith, m.1), m.3)
