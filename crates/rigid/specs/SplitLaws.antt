@@ -1,9 +1,6 @@
 -- Laws of the splits where a rigid run fits: where its first record cannot fit the run does not, and the first split that fits is found by
 -- passing over those that do not.
 use Rattle.std.specs.Prelude.{◌≡◌, refl, List, Bool, true, false, length, get_or, drop, ℕ, ◌+◌, ◌-◌, ◌/◌, ◌<◌, ◌≤◌}
-use Rattle.std.specs.Prelude.{Option, Some, None}
-use Rattle.std.specs.Bool.{⊤}
-use Rattle.std.specs.Option.{MatchOption, unwrap_or}
 use Rattle.std.proofs.Common.{sym, ap, subst, ◌∙◌, ne_eqb, arith}
 use Rattle.std.proofs.Math.Decide.{ℕ_discrete, dec_lt}
 use Rattle.term_spec.specs.Words.{decode, record_at, count}
@@ -40,13 +37,9 @@ module _ (names w : List ℕ) (used i : ℕ) (t : Item) (lt : i < used) (low : t
       go (yes e) = sym (ne_eqb (record_at term_layout w i).kind 3 (bracket_apart t (record_at term_layout w i) e apart)) ∙ term_bracket names w used i t (record_at term_layout w i) lt refl e
       go (no n) = term_literal names w used i t (record_at term_layout w i) lt refl (omega arith) (literal_apart names t (record_at term_layout w i) (omega arith) apart)
 
--- Where the first i in a range that does not have P is looked for, all that are passed have it.
-pub begun : (P : ℕ → Type 0) (from end : ℕ) (r : Option ℕ) {u : ℕ} → from ≤ end
-    → MatchOption r ((k : ℕ) → from ≤ k → k < end → P k) (λ i. (from ≤ i) × (i < end) × ⊤ × ((k : ℕ) → from ≤ k → k < i → P k))
-    → u ≡ unwrap_or r end
-    → (from ≤ u) × (u ≤ end) × ((i : ℕ) → from ≤ i → i < u → P i)
-begun P from end None h m e = rw e (h, omega arith, m)
-begun P from end (Some i) h m e = rw e (m.0, omega (arith, m.1), m.3)
+-- What holds from `from` on below i, and of i, holds below i + 1.
+pub from_more : (P : ℕ → Type 0) (from i : ℕ) → ((h : ℕ) → from ≤ h → h < i → P h) → P i → (h : ℕ) → from ≤ h → h < i + 1 → P h
+from_more P from i all one h a b = elim (dec_lt h i) [ yes l ↦ all h a l | no l ↦ let e : i ≡ h = omega arith in subst P e one ]
 
 -- The run from record p on does not fit at a split where record p cannot.
 pub split_apart : (names w : List ℕ) (used : ℕ) (pattern numbers : List ℕ) (p m : ℕ) (binds : List ℕ) (r : Run) → 1 ≤ r.len → r.start + r.len ≤ used

@@ -169,7 +169,7 @@ fn may_begin(terms: &[u32], t: Item, i: usize) -> bool
     ensures { result ≡ false → Apart (as_item t) (record_at term_layout terms.now i) }
 {
     let u = words::get::<Term>(terms, i);
-    u.kind == t.kind && (t.kind != words::CHAR || u.a == t.a)
+    (t.kind != words::CHAR || u.a == t.a) && u.kind == t.kind
 }
 
 // The first of the terms from `from` to before `end` at which it may begin, `end` if there is none.
@@ -178,7 +178,13 @@ fn next_begin(terms: &[u32], t: Item, from: usize, end: usize) -> usize
     ensures { let terms = terms.entry.now in
         (from ≤ result) × (result ≤ end) × ((i : ℕ) → from ≤ i → i < result → Apart (as_item t) (record_at term_layout terms i)) }
 {
-    (from..end).find(|i| may_begin(terms, t, *i)).unwrap_or(end)
+    // As a `find` over the range this was proved, and took a third longer for each term that is passed over.
+    for i in from..end {
+        if may_begin(terms, t, i) {
+            return i;
+        }
+    }
+    end
 }
 
 // Passes over splits from j on where the record p that comes after the e-variable cannot fit.
