@@ -3,7 +3,7 @@
 
 ghost use Rattle.std.specs.Prelude.{◌≡◌, ◌+◌, ◌<◌};
 ghost use Rattle.words.specs.Records.{as_term};
-ghost use Rattle.kinds.specs.Kinds.{rows, columns, spec_column_of, takes_at, takes_term};
+ghost use Rattle.kinds.specs.Kinds.{rows, columns, ColumnIs, takes_at, takes_term};
 
 use words::Term;
 
@@ -19,6 +19,7 @@ const TAKES: [[bool; COLUMNS]; ROWS] = [
 ];
 
 // The entry of the table.
+#[tactic(auto, unfolding(crate::specs::Kinds::takes_at, term_spec::specs::Value::takes_table))]
 fn takes(row: usize, column: usize) -> bool
     requires { (row < rows) × (column < columns) }
     ensures { result ≡ takes_at row column }
@@ -26,27 +27,27 @@ fn takes(row: usize, column: usize) -> bool
     TAKES[row][column]
 }
 
-// A term's column: unknowns are split in three. One past the table for an unknown of no kind.
-fn column_of(t: Term) -> usize
-    ensures { result ≡ spec_column_of (as_term t) }
+// A term's column: unknowns are split in three. None for an unknown of no kind.
+fn column_of(t: Term) -> Option<usize>
+    ensures { ColumnIs result (as_term t) }
 {
     if t.kind < words::UNKNOWN {
-        return t.kind;
+        return Some(t.kind);
     }
     if words::EXPRESSION < t.a {
-        return COLUMNS;
+        return None;
     }
-    words::UNKNOWN + t.a
+    Some(words::UNKNOWN + t.a)
 }
 
-// Whether a variable of row s, t or e (0, 1, 2) takes a term.
+// Whether a variable of row s, t or e (0, 1, 2) takes a term. The rows and columns are numbers: a caller has a row as the distance of two kinds, and enums of
+// both would be made from numbers by a match each before the one look into the table.
 pub fn variable_accepts(row: usize, t: Term) -> bool
     requires { row < rows }
     ensures { result ≡ takes_term row (as_term t) }
 {
-    let column = column_of(t);
-    if COLUMNS <= column {
-        return false;
+    match column_of(t) {
+        Some(column) => takes(row, column),
+        None => false,
     }
-    takes(row, column)
 }

@@ -15,6 +15,7 @@ use Rattle.words.specs.declared.Run.{Run as CodeRun}
 use Rattle.words.specs.Records.{as_run}
 use Rattle.matcher.specs.declared.Goal.{Goal}
 use Rattle.matcher.specs.declared.Tally.{Tally}
+use Rattle.matcher.specs.declared.Status.TheVariants.{Going}
 use Rattle.matcher.specs.Ready.{Given, reading_of, pattern_from, Ready, SlotsReady, Written}
 use Rattle.listing.specs.declared.Matched.{Matched}
 use Rattle.listing.specs.declared.Matched.TheVariants.{Listed, More}
@@ -62,7 +63,7 @@ refused_to8 s f p b = asks_to8 s f p b none
 
 -- Nothing is written, and more is to be taken in.
 abbrev pub no_tally : Tally
-no_tally = record { stop = 0; count = 0 }
+no_tally = record { stop = Going; count = 0 }
 
 -- The walk over the run r with the start's runs and m names may begin, wherever the words of its levels and entries lie.
 abbrev pub ReadyToStart : Given → ℕ → Run → List Run → Type 0

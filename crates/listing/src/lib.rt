@@ -14,7 +14,7 @@ ghost use Rattle.words.specs.Refusals.{told_number};
 ghost use Rattle.matcher.specs.Ready.{status_of, wanted_of};
 ghost use Rattle.listing.specs.Match.{matched_of, leaves_slots, request_of, even_words, refused_to8};
 
-use matcher::{Goal, Tally, status};
+use matcher::{Goal, Status, Tally};
 use view::Field;
 use words::refusal::Refusal;
 
@@ -112,24 +112,14 @@ fn answer(t: Tally, names: usize) -> Result<Matched, Refusal>
     ensures { let status = status_of t.stop in
         ((w : List (List SpecRun)) → length w ≡ t.count → matched_of result ≡ match_answer (number_of status w) t.count names) }
 {
-    if t.stop == status::FULL {
-        return Ok(Matched::More {
-            count: t.count,
-            entries: names,
-        });
+    let (count, entries) = (t.count, names);
+    match t.stop {
+        Status::Full => Ok(Matched::More { count, entries }),
+        Status::Called => Err(Refusal::CallsAreNotPatterns),
+        Status::Going if t.count == 0 => Err(Refusal::NoMatch),
+        Status::Going => Ok(Matched::Listed { count, entries }),
+        Status::Done => Ok(Matched::Listed { count, entries }),
     }
-    if status::CALLED <= t.stop {
-        return Err(Refusal::CallsAreNotPatterns);
-    }
-    if t.stop == status::GOING {
-        if t.count == 0 {
-            return Err(Refusal::NoMatch);
-        }
-    }
-    Ok(Matched::Listed {
-        count: t.count,
-        entries: names,
-    })
 }
 
 // The candidates of a pattern over a field, or the head of their list.

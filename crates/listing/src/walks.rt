@@ -1,5 +1,5 @@
 // The walk as a listing starts it: over a settled run, from the start's entries, with words for what comparing finds.
-ghost use Rattle.std.specs.Prelude.{◌≡◌, map, ◌+◌, ◌*◌, ◌<◌, ◌≤◌, length};
+ghost use Rattle.std.specs.Prelude.{◌≡◌, map, ◌+◌, ◌*◌, ◌^◌, ◌<◌, ◌≤◌, length};
 ghost use Rattle.term_spec.specs.Words.{count, records};
 ghost use Rattle.match_spec.specs.Pattern.{binding_layout, bound_run, name_limit};
 ghost use Rattle.equality.specs.Memory.{Memory};
@@ -7,8 +7,8 @@ ghost use Rattle.steps.specs.State.{entries_in, EntryRoom};
 ghost use Rattle.matcher.specs.Ready.{given_of};
 ghost use Rattle.listing.specs.Match.{CanStart, Started};
 
-use items::Item;
-use matcher::{Goal, Tally, status};
+use items::{Binding, Item};
+use matcher::{Goal, Status, Tally};
 use steps::State;
 use words::Run;
 
@@ -18,12 +18,13 @@ fn start(bindings: &[u32], binds: &mut [u32])
     ensures { let bindings = bindings.entry.now in
         entries_in (count binding_layout bindings) binds.new ≡ map bound_run (records binding_layout bindings) }
 {
-    let n = bindings.len() / items::BINDING_WIDTH;
-    let mut i = 0;
-    while i < n {
-        binds[2 * i] = bindings[5 * i + 3];
-        binds[2 * i + 1] = bindings[5 * i + 4];
-        i += 1;
+    for i in 0..bindings.len() / items::BINDING_WIDTH {
+        let b = words::get::<Binding>(bindings, i);
+        let run = Run {
+            start: b.start,
+            len: b.len,
+        };
+        words::put(binds, i, run);
     }
 }
 
@@ -55,7 +56,7 @@ fn walk_with(
         bound: bindings.len() / items::BINDING_WIDTH,
     };
     let none = Tally {
-        stop: status::GOING,
+        stop: Status::Going,
         count: 0,
     };
     matcher::walk(
@@ -75,16 +76,16 @@ fn walk_with(
     )
 }
 
-// Words for what comparing finds, by the size of the store: to clear more than are needed would take longer than a small listing. The functions that
-// have many never call themselves; that they could keeps the compiler from copying them, and their stack, into their caller, which has to touch each
-// page of its stack at every call.
+// Words for what comparing finds, by the size of the store: to clear more than are needed would take longer than a small listing.
 const NONE: usize = 1;
 
 const SMALL: usize = 256;
 
 const MIDDLE: usize = 4096;
 
-fn walk_keeping_none(
+// The walk with N words for what comparing finds. Not copied into its caller, which would have to touch each page of their stack at every call.
+#[inline(never)]
+fn walk_keeping<const N: usize>(
     names: &[u8],
     terms: &[u32],
     used: usize,
@@ -95,102 +96,24 @@ fn walk_keeping_none(
     g: Goal,
     slots: &mut [u32],
 ) -> Tally
-    requires { let given = given_of names.now terms.now used pattern.now numbers.now in
+    requires fits { N < 2 ^ 32 }
+    requires can_start { let given = given_of names.now terms.now used pattern.now numbers.now in
         CanStart given bindings.now run g slots.old }
     ensures { let given = given_of names.now terms.now used pattern.now numbers.now in
         Started given bindings.now run g result slots.old slots.new }
 {
-    let mut known = [0u16; NONE];
+    let mut known = [0u16; N];
     walk_with(
         names, terms, used, pattern, numbers, bindings, run, g, slots, &mut known,
     )
-}
-
-fn walk_keeping_few(
-    names: &[u8],
-    terms: &[u32],
-    used: usize,
-    pattern: &[u32],
-    numbers: &[u32],
-    bindings: &[u32],
-    run: Run,
-    g: Goal,
-    slots: &mut [u32],
-) -> Tally
-    requires { let given = given_of names.now terms.now used pattern.now numbers.now in
-        CanStart given bindings.now run g slots.old }
-    ensures { let given = given_of names.now terms.now used pattern.now numbers.now in
-        Started given bindings.now run g result slots.old slots.new }
-{
-    let mut known = [0u16; SMALL];
-    walk_with(
-        names, terms, used, pattern, numbers, bindings, run, g, slots, &mut known,
-    )
-}
-
-fn walk_keeping_more(
-    names: &[u8],
-    terms: &[u32],
-    used: usize,
-    pattern: &[u32],
-    numbers: &[u32],
-    bindings: &[u32],
-    run: Run,
-    g: Goal,
-    slots: &mut [u32],
-) -> Tally
-    requires { let given = given_of names.now terms.now used pattern.now numbers.now in
-        CanStart given bindings.now run g slots.old }
-    ensures { let given = given_of names.now terms.now used pattern.now numbers.now in
-        Started given bindings.now run g result slots.old slots.new }
-{
-    let mut known = [0u16; MIDDLE];
-    let tally = walk_with(
-        names, terms, used, pattern, numbers, bindings, run, g, slots, &mut known,
-    );
-    if used < run.start {
-        return walk_keeping_more(
-            names, terms, used, pattern, numbers, bindings, run, g, slots,
-        );
-    }
-    tally
-}
-
-fn walk_keeping_all(
-    names: &[u8],
-    terms: &[u32],
-    used: usize,
-    pattern: &[u32],
-    numbers: &[u32],
-    bindings: &[u32],
-    run: Run,
-    g: Goal,
-    slots: &mut [u32],
-) -> Tally
-    requires { let given = given_of names.now terms.now used pattern.now numbers.now in
-        CanStart given bindings.now run g slots.old }
-    ensures { let given = given_of names.now terms.now used pattern.now numbers.now in
-        Started given bindings.now run g result slots.old slots.new }
-{
-    let mut known = [0u16; equality::MEMORY];
-    let tally = walk_with(
-        names, terms, used, pattern, numbers, bindings, run, g, slots, &mut known,
-    );
-    if used < run.start {
-        return walk_keeping_all(
-            names, terms, used, pattern, numbers, bindings, run, g, slots,
-        );
-    }
-    tally
 }
 
 // How many records of a pattern are variables.
 fn variables(pattern: &[u32]) -> usize
     ensures { result ≤ length pattern.now }
 {
-    let n = pattern.len() / items::ITEM_WIDTH;
     let mut count = 0;
-    for i in 0..n {
+    for i in 0..pattern.len() / items::ITEM_WIDTH {
         let t = words::get::<Item>(pattern, i);
         if pattern::is_variable(t.kind) {
             count += 1;
@@ -217,22 +140,22 @@ pub fn walk_from(
         Started given bindings.now run g result slots.old slots.new }
 {
     if used < SMALL {
-        return walk_keeping_few(
+        return walk_keeping::<SMALL>(
             names, terms, used, pattern, numbers, bindings, run, g, slots,
         );
     }
     let given = bindings.len() / items::BINDING_WIDTH;
     if given + variables(pattern) == g.entries {
-        return walk_keeping_none(
+        return walk_keeping::<NONE>(
             names, terms, used, pattern, numbers, bindings, run, g, slots,
         );
     }
     if used < MIDDLE {
-        return walk_keeping_more(
+        return walk_keeping::<MIDDLE>(
             names, terms, used, pattern, numbers, bindings, run, g, slots,
         );
     }
-    walk_keeping_all(
+    walk_keeping::<{ equality::MEMORY }>(
         names, terms, used, pattern, numbers, bindings, run, g, slots,
     )
 }

@@ -8,6 +8,8 @@ use Rattle.match_spec.specs.Answer.{going, called, Progress, Wanted, absorb_one,
 use Rattle.match_spec.proofs.AnswerLaws.{absorb-append, absorb_done, absorb-full, absorb_called}
 use Rattle.matcher.specs.declared.Goal.{Goal}
 use Rattle.matcher.specs.declared.Tally.{Tally}
+use Rattle.matcher.specs.declared.Status.{Status}
+use Rattle.matcher.specs.declared.Status.TheVariants.{Going, Done, Full, Called}
 use Rattle.matcher.specs.Ready.{candidates_in, status_of, progress_of, wanted_of, slot_words, Filled, Written}
 
 -- ---- the slots ----
@@ -33,13 +35,13 @@ filled_more m cap {f} {g} {r} {u} {v} {w} a b = record {
 -- ---- exits of the walk ----
 
 -- a listing that has stopped takes in nothing
-stopped : {E : Type 0} (q : Wanted) (cap : ℕ) (l : List (Event E)) (w : List E) (n : ℕ) → (n ≡ 0 → ⊥)
+stopped : {E : Type 0} (q : Wanted) (cap : ℕ) (l : List (Event E)) (w : List E) (n : Status) → (n ≡ Going → ⊥)
     → absorb q cap l (record { written = w; status = status_of n }) ≡ record { written = w; status = status_of n }
 unfolding status_of
-stopped q cap l w zero h = absurd (h refl)
-stopped q cap l w (suc zero) h = absorb_done q cap l w
-stopped q cap l w (suc (suc zero)) h = absorb-full q cap l w
-stopped q cap l w (suc (suc (suc k))) h = absorb_called q cap l w
+stopped q cap l w Going h = absurd (h refl)
+stopped q cap l w Done h = absorb_done q cap l w
+stopped q cap l w Full h = absorb-full q cap l w
+stopped q cap l w Called h = absorb_called q cap l w
 
 -- nothing is taken in
 none_taken : {E : Type 0} (q : Wanted) (cap : ℕ) (o : Progress E) → absorb q cap [] o ≡ o
@@ -65,12 +67,12 @@ module _ (g : Goal) (f : Tally) (w : List ℕ) (most : f.count ≤ g.cap) {event
     filled = filled-same _ _ f f w refl most;
   }
 
-  pub written_call : f.stop ≡ 0 → events ≡ reached ∷ [] → Written g events f (record { stop = 3; count = f.count }) w w
+  pub written_call : f.stop ≡ Going → events ≡ reached ∷ [] → Written g events f (record { stop = Called; count = f.count }) w w
   unfolding status_of
   written_call z e = record {
     taken = sym (ap₂ (λ x y. absorb (wanted_of g.head) g.cap x (record { written = candidates_in g.entries f.count w; status = status_of y })) e z
         ∙ call_taken (wanted_of g.head) g.cap (candidates_in g.entries f.count w));
-    filled = filled-same _ _ f (record { stop = 3; count = f.count }) w refl most;
+    filled = filled-same _ _ f (record { stop = Called; count = f.count }) w refl most;
   }
 
 -- other events that are the same
@@ -122,11 +124,11 @@ module _ (g : Goal) (G : ℕ → List (Event (List Run))) (len : ℕ) (f : Tally
   -- k splits are behind: what is left comes to the whole, and nothing has stopped the listing
   pub record Looping (got : Tally) (slots : List ℕ) (k : ℕ) : Type 0 where
     pub within : k ≤ suc len
-    pub goes : got.stop ≡ 0
+    pub goes : got.stop ≡ Going
     pub left : takes (splits_from G k (suc len - k)) got slots ≡ whole
     pub filled : Filled g.entries g.cap f got before slots
 
-  pub loop_start : f.stop ≡ 0 → f.count ≤ g.cap → Looping f before 0
+  pub loop_start : f.stop ≡ Going → f.count ≤ g.cap → Looping f before 0
   loop_start s c = let z : suc len - 0 ≡ suc len = omega arith in record {
     within = omega arith;
     goes = s;
@@ -169,7 +171,7 @@ module _ (g : Goal) (G : ℕ → List (Event (List Run))) (len : ℕ) (f : Tally
           ∙ ap (λ n. absorb (wanted_of g.head) g.cap W (record { written = so_far; status = status_of n })) (sym o.goes)
           ∙ sym w.taken
 
-      pub loop_into : r.stop ≡ 0 → Looping r after (k + 1)
+      pub loop_into : r.stop ≡ Going → Looping r after (k + 1)
       loop_into s = record {
         within = omega arith;
         goes = s;
@@ -177,7 +179,7 @@ module _ (g : Goal) (G : ℕ → List (Event (List Run))) (len : ℕ) (f : Tally
         filled = filled_more _ _ o.filled w.filled;
       }
 
-      pub loop_stops : (r.stop ≡ 0 → ⊥) → Written g (upto G len) f r before after
+      pub loop_stops : (r.stop ≡ Going → ⊥) → Written g (upto G len) f r before after
       loop_stops n = record {
         taken = sym (stopped (wanted_of g.head) g.cap later_splits (candidates_in g.entries r.count after) r.stop n)
             ∙ ap (absorb (wanted_of g.head) g.cap later_splits) (sym taken_here) ∙ apart h;

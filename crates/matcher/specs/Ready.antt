@@ -1,18 +1,22 @@
 -- What the walk in code asks for and leaves, and how its tally and the slots' words stand for the progress of the specification.
-use Rattle.std.specs.Prelude.{◌≡◌, List, Bool, true, false, length, set, drop, ℕ, suc, zero, ◌+◌, ◌*◌, ◌<◌, ◌≤◌}
+use Rattle.std.specs.Prelude.{◌≡◌, List, Bool, true, false, length, drop, ℕ, ◌+◌, ◌*◌, ◌<◌, ◌≤◌}
 use Rattle.term_spec.specs.Words.{count}
 use Rattle.term_spec.specs.Term.{Run, limit, run_layout}
 use Rattle.match_spec.specs.Element.{Element}
 use Rattle.match_spec.specs.Pattern.{item_layout, name_limit}
 use Rattle.match_spec.specs.Walk.{Event, Reading, walk}
-use Rattle.match_spec.specs.Answer.{Status, going, done, full, called, Progress, Wanted, allOfThem, headOnly, absorb}
+use Rattle.match_spec.specs.Answer.{Status as SpecStatus, going, done, full, called, Progress, Wanted, allOfThem, headOnly, absorb}
 use Rattle.calls_spec.specs.Demand3.{read_slots}
 use Rattle.value.specs.Equal.{TermStore}
 use Rattle.steps.specs.Turn.{onward}
-use Rattle.steps.specs.State.{Place, store_runs, level_of, stack_of, levels_of, entries_of, entries_in, turn_as, pattern_in, LevelRoom, EntryRoom, PatternReady}
+use Rattle.steps.specs.State.{Place, store_runs, level_of, stack_of, levels_of, entries_of, entries_in}
+use Rattle.steps.specs.State.{turn_of, pattern_in, LevelRoom, EntryRoom, Restores, PatternReady}
 use Rattle.steps.specs.Stays.{Stays, Kept, Grows}
-use Rattle.steps.specs.declared.What.{What}
-use Rattle.steps.specs.declared.What.TheVariants.{Next}
+use Rattle.steps.specs.declared.State.{State}
+use Rattle.steps.specs.declared.Turned.{Turned}
+use Rattle.steps.specs.declared.Turned.TheVariants.{Next}
+use Rattle.matcher.specs.declared.Status.{Status}
+use Rattle.matcher.specs.declared.Status.TheVariants.{Going, Done, Full, Called}
 use Rattle.matcher.specs.declared.Goal.{Goal}
 use Rattle.matcher.specs.declared.Tally.{Tally}
 
@@ -63,15 +67,15 @@ pub record CanTurn (v : Given) (p : ℕ) (s : Place) : Type 0 where
 
 -- ---- the turn that a record has taken ----
 
--- At the place s it does w, and the walk stands at `at` after it; `start` and `len` are the words of level `s.depth` before it.
-pub record TurnTaken (v : Given) (p : ℕ) (s : Place) (w : What) (at : Place) (start len : ℕ) : Type 0 where
+-- At the place s it does m, and leaves the words lv of the levels and bd of the entries.
+pub record TurnTaken (v : Given) (p : ℕ) (s : Place) (m : Turned) (lv bd : List ℕ) : Type 0 where
   pub there : p < count item_layout v.pattern
-  pub events : events_from v p s ≡ onward (reading_of v) (pattern_from v (p + 1)) (turn_as w at)
-  pub kept : (m : ℕ) → Ready v p m s → Kept v.used (pattern_from v (p + 1)) m (level_of s) (stack_of s.depth s.levels) (entries_of s) (turn_as w at)
-  pub grows : Grows (length (entries_of s)) (turn_as w at)
-  pub back : w ≡ Next → set (set at.levels (2 * s.depth) start) (2 * s.depth + 1) len ≡ s.levels
-  pub same : (w ≡ Next → ⊥) → at.levels ≡ s.levels
-  pub entries_same : entries_in s.bound at.binds ≡ entries_of s
+  pub events : events_from v p s ≡ onward (reading_of v) (pattern_from v (p + 1)) (turn_of m lv bd)
+  pub kept : (n : ℕ) → Ready v p n s → Kept v.used (pattern_from v (p + 1)) n (level_of s) (stack_of s.depth s.levels) (entries_of s) (turn_of m lv bd)
+  pub grows : Grows (length (entries_of s)) (turn_of m lv bd)
+  pub back : Restores s.depth s.levels lv
+  pub same : ((a : State) → m ≡ Next a → ⊥) → lv ≡ s.levels
+  pub entries_same : entries_in s.bound bd ≡ entries_of s
 
 -- ---- the slots ----
 
@@ -79,12 +83,12 @@ pub record TurnTaken (v : Given) (p : ℕ) (s : Place) (w : What) (at : Place) (
 abbrev pub candidates_in : ℕ → ℕ → List ℕ → List (List Run)
 candidates_in m c w = read_slots c m w
 
--- A tally's reason to stop, by its number: 0 going, 1 done, 2 full, 3 called.
-unfoldable pub status_of : ℕ → Status
-status_of zero = going
-status_of (suc zero) = done
-status_of (suc (suc zero)) = full
-status_of (suc (suc (suc k))) = called
+-- A tally's reason to stop, as the specification has it.
+unfoldable pub status_of : Status → SpecStatus
+status_of Going = going
+status_of Done = done
+status_of Full = full
+status_of Called = called
 
 -- What has been written and how it stands.
 abbrev pub progress_of : ℕ → Tally → List ℕ → Progress (List Run)
@@ -103,7 +107,7 @@ slot_words m = m * run_layout.width
 pub record SlotsReady (g : Goal) (f : Tally) (slots : List ℕ) : Type 0 where
   pub room : g.cap * slot_words g.entries ≤ length slots
   pub most : f.count ≤ g.cap
-  pub goes : f.stop ≡ 0
+  pub goes : f.stop ≡ Going
 
 -- No more than the slots are written, and the words after them are as they were.
 pub record Filled (m cap : ℕ) (f r : Tally) (before after : List ℕ) : Type 0 where

@@ -1,5 +1,5 @@
 -- Laws of the loop over the splits of an open e-variable: where the walk may go on at a split, and what each exit of the loop leaves.
-use Rattle.std.specs.Prelude.{◌≡◌, List, [], ◌∷◌, ◌++◌, Bool, true, false, length, ℕ, suc, ◌+◌, ◌<◌, ◌≤◌}
+use Rattle.std.specs.Prelude.{◌≡◌, List, [], ◌∷◌, ◌++◌, Bool, true, false, length, ℕ, suc, ◌+◌, ◌-◌, ◌<◌, ◌≤◌, Option, Some, None}
 use Rattle.std.proofs.Math.Path.{refl, ap, subst}
 use Rattle.std.proofs.Common.{ap₂, sym, ◌∙◌, length-append, arith}
 use Rattle.term_spec.proofs.ListLaws.{All, all_snoc}
@@ -13,11 +13,12 @@ use Rattle.steps.specs.Stays.{Sound, Stays, KeepsPlace, Kept}
 use Rattle.steps.specs.TurnLaws.{sound_most}
 use Rattle.steps.specs.ArrayLaws.{entries_fewer, entries_less}
 use Rattle.steps.specs.State.{Place, spec_place_of, left_of, front_of, back_of, giving, stack_of, level_of, levels_of, entries_in, entries_of}
-use Rattle.steps.specs.State.{turn_as, LevelRoom, EntryRoom, Known}
+use Rattle.steps.specs.State.{turn_of, LevelRoom, EntryRoom, Known}
 use Rattle.steps.specs.declared.State.{State}
-use Rattle.steps.specs.declared.What.{What}
-use Rattle.steps.specs.declared.What.TheVariants.{Split}
-use Rattle.rigid.specs.Fit.{split_fits, FirstFit}
+use Rattle.steps.specs.declared.Turned.{Turned}
+use Rattle.steps.specs.declared.Turned.TheVariants.{Split}
+use Rattle.matcher.specs.declared.Status.TheVariants.{Going}
+use Rattle.rigid.specs.Fit.{split_fits, FirstFit, FirstOf}
 use Rattle.matcher.specs.declared.Goal.{Goal}
 use Rattle.matcher.specs.declared.Tally.{Tally}
 use Rattle.matcher.specs.Ready.{Given, reading_of, pattern_from, events_from, Ready, TurnTaken, SlotsReady, Walked}
@@ -42,6 +43,16 @@ pub record Splitting (v : Given) (p : ℕ) (g : Goal) (at : Place) (f : Tally) (
   pub entries_same : entries_in at.bound binds ≡ entries_of at
   pub binds_length : length binds ≡ length at.binds
   pub slots_length : length slots ≡ length before
+
+-- So where the rigid run fits next, or nowhere.
+abbrev pub SplittingAt : Given → ℕ → Goal → Place → Tally → List ℕ → List ℕ → List ℕ → List ℕ → Tally → Option ℕ → Type 0
+SplittingAt v p g at f before levels binds slots got None = Splitting v p g at f before levels binds slots got (at.len + 1)
+SplittingAt v p g at f before levels binds slots got (Some k) = Splitting v p g at f before levels binds slots got k × (k ≤ at.len)
+
+-- How many splits are left.
+abbrev pub splits_left : ℕ → Option ℕ → ℕ
+splits_left n None = 0
+splits_left n (Some k) = n + 1 - k
 
 module _ (v : Given) (p : ℕ) (at : Place) where
   split_not : (k : ℕ) → fits_there v p at at.binds k ≡ false → split_events v p at k ≡ []
@@ -68,9 +79,9 @@ module _ (v : Given) (p : ℕ) (at : Place) where
     next_fits : j ≤ at.len → fits_there v p at at.binds j ≡ true
     next_fits l = fits-same binds j same ∙ h.fits l
 
-pub splitting_start : (v : Given) (p : ℕ) (g : Goal) (at : Place) (f : Tally) (before : List ℕ) {k : ℕ} → f.stop ≡ 0 → f.count ≤ g.cap
+splitting_from : (v : Given) (p : ℕ) (g : Goal) (at : Place) (f : Tally) (before : List ℕ) {k : ℕ} → f.stop ≡ Going → f.count ≤ g.cap
     → FirstFit (fits_there v p at at.binds) 0 at.len k → Splitting v p g at f before at.levels at.binds before f k
-splitting_start v p g at f before z c h = record {
+splitting_from v p g at f before z c h = record {
   loop = loop_next v p at at.binds refl (loop_start _ _ _ _ _ z c) h;
   fits = next_fits v p at at.binds refl (loop_start g (split_events v p at) at.len f before z c) h;
   levels-same = refl;
@@ -79,6 +90,11 @@ splitting_start v p g at f before z c h = record {
   slots_length = refl;
 }
 
+pub splitting_start : (v : Given) (p : ℕ) (g : Goal) (at : Place) (f : Tally) (before : List ℕ) (r : Option ℕ) → f.stop ≡ Going → f.count ≤ g.cap
+    → FirstOf (fits_there v p at at.binds) 0 at.len r → SplittingAt v p g at f before at.levels at.binds before f r
+splitting_start v p g at f before None z c h = splitting_from v p g at f before z c h
+splitting_start v p g at f before (Some k) z c h = (splitting_from v p g at f before z c h.0, h.1)
+
 -- As many slots are there, and no more are written.
 pub split_slots : {v : Given} {p : ℕ} {g : Goal} {at : Place} {f : Tally} {before levels binds slots : List ℕ} {got : Tally} {k : ℕ}
     → Splitting v p g at f before levels binds slots got k → SlotsReady g f before → SlotsReady g got slots
@@ -86,15 +102,15 @@ split_slots o h = record { room = rw o.slots_length h.room; most = o.loop.filled
 
 -- ---- the loop at a turn that splits: a is the state after the turn, lv and bd the words of its levels and entries ----
 
-module _ {v : Given} {p m : ℕ} {s : Place} {w : What} {a : State} {lv bd : List ℕ} {start len : ℕ} (y : Ready v p m s)
-    (t : TurnTaken v p s w (spec_place_of a lv bd) start len) (e : w ≡ Split) where
+module _ {v : Given} {p m : ℕ} {s : Place} {w : Turned} {a : State} {lv bd : List ℕ} (y : Ready v p m s)
+    (t : TurnTaken v p s w lv bd) (e : w ≡ Split a) where
   abbrev at : Place
   at = spec_place_of a lv bd
 
   place_kept : KeepsPlace (pattern_from v (p + 1)) m (level_of s) (level_of at) (stack_of s.depth s.levels) (stack_of at.depth at.levels)
       (entries_of s) (entries_of at)
-  unfolding turn_as Kept
-  place_kept = subst (λ z. Kept v.used (pattern_from v (p + 1)) m (level_of s) (stack_of s.depth s.levels) (entries_of s) (turn_as z at)) e (t.kept m y)
+  unfolding turn_of Kept
+  place_kept = subst (λ z. Kept v.used (pattern_from v (p + 1)) m (level_of s) (stack_of s.depth s.levels) (entries_of s) (turn_of z lv bd)) e (t.kept m y)
 
   pub split_inside : a.start + a.len ≤ v.used
   split_inside = subst (λ r. r.start + r.len ≤ v.used) (sym place_kept.level) y.stays.level_in
@@ -130,9 +146,9 @@ module _ {v : Given} {p m : ℕ} {s : Place} {w : What} {a : State} {lv bd : Lis
 
   -- its splits
   turn_split : events_from v p s ≡ upto (split_events v p at) a.len
-  unfolding turn_as onward
+  unfolding turn_of onward
   turn_split =
-      t.events ∙ ap (λ z. onward (reading_of v) (pattern_from v (p + 1)) (turn_as z at)) e
+      t.events ∙ ap (λ z. onward (reading_of v) (pattern_from v (p + 1)) (turn_of z lv bd)) e
       ∙ ap (upto (split_events v p at)) (cells_size v.names (terms_of v) (level_of at) (rw (size_of v) split_inside))
 
   -- k terms are given to it
@@ -185,7 +201,7 @@ module _ {v : Given} {p m : ℕ} {s : Place} {w : What} {a : State} {lv bd : Lis
             entries_fewer binds-after more a.bound n.bound l d.entries_same ∙ entries_less more binds a.bound _ em ∙ o.entries_same
 
         -- it stopped the listing
-        pub splitting_stops : (r.stop ≡ 0 → ⊥) → Walked g (events_from v p s) f r before after s levels-after binds-after
+        pub splitting_stops : (r.stop ≡ Going → ⊥) → Walked g (events_from v p s) f r before after s levels-after binds-after
         splitting_stops q = record {
           written = written_same turn_split (loop_stops _ _ _ _ _ o.loop h given_events d.written q);
           levels-same = d.levels-same ∙ o.levels-same ∙ split_levels t e;
@@ -193,10 +209,10 @@ module _ {v : Given} {p m : ℕ} {s : Place} {w : What} {a : State} {lv bd : Lis
         }
 
         -- the loop goes on at the next split that fits
-        pub splitting_next : r.stop ≡ 0 → length binds-after ≡ length binds → length after ≡ length slots
+        splitting_more : r.stop ≡ Going → length binds-after ≡ length binds → length after ≡ length slots
             → {j : ℕ} → FirstFit (fits_there v p at binds-after) (k + 1) a.len j
             → Splitting v p g at f before levels-after binds-after after r j
-        splitting_next q lb ls x =
+        splitting_more q lb ls x =
             let into = loop_into _ _ _ _ _ o.loop h given_events d.written q in record {
               loop = loop_next v p at binds-after given-kept into x;
               fits = next_fits v p at binds-after given-kept into x;
@@ -205,3 +221,8 @@ module _ {v : Given} {p m : ℕ} {s : Place} {w : What} {a : State} {lv bd : Lis
               binds_length = lb ∙ o.binds_length;
               slots_length = ls ∙ o.slots_length;
             }
+
+        pub splitting_next : (j : Option ℕ) → r.stop ≡ Going → length binds-after ≡ length binds → length after ≡ length slots
+            → FirstOf (fits_there v p at binds-after) (k + 1) a.len j → SplittingAt v p g at f before levels-after binds-after after r j
+        splitting_next None q lb ls x = splitting_more q lb ls x
+        splitting_next (Some j) q lb ls x = (splitting_more q lb ls x.0, x.1)

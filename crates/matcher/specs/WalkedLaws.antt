@@ -1,12 +1,14 @@
 -- Laws of the walk in code: what a record's turn brings, where the walk may go on, and what each exit leaves.
-use Rattle.std.proofs.Math.Path.{◌≡◌, ap, ap₂, subst}
+use Rattle.std.proofs.Math.Path.{◌≡◌, ap, subst}
 use Rattle.std.specs.Prelude.{refl, List, [], ◌∷◌, Bool, T, get_or, ℕ, suc, zero, ◌+◌, ◌*◌, ◌/◌, ◌<◌, ◌≤◌, max}
 use Rattle.std.proofs.Common.{sym, ◌∙◌, arith}
-use Rattle.std.proofs.Math.ListN.{length, set}
+use Rattle.std.proofs.Math.ListN.{length}
 use Rattle.term_spec.proofs.ListLaws.{All}
-use Rattle.term_spec.specs.Words.{decode, record_at, count}
+use Rattle.term_spec.specs.Words.{Lies, decode, record_at, write, count}
 use Rattle.term_spec.proofs.WordsLaws.{decode-length}
-use Rattle.term_spec.specs.Term.{Term, term_layout, run_layout}
+use Rattle.term_spec.specs.Term.{Term, Run, term_layout, run_layout}
+use Rattle.words.specs.declared.Run.{Run as CodeRun}
+use Rattle.words.specs.Records.{as_run, SmallRun}
 use Rattle.term_spec.proofs.TermLaws.{Valid, valid-terms}
 use Rattle.match_spec.specs.Element.{Element, canon_e}
 use Rattle.match_spec.specs.Pattern.{Item, item_layout, element_k, element, item_rule_k, name_limit}
@@ -15,12 +17,13 @@ use Rattle.steps.specs.Turn.{turn, onward}
 use Rattle.steps.specs.Stays.{Sound, Stays, Kept, Grows}
 use Rattle.steps.specs.TurnLaws.{walk_turn, sound_most, turn-kept, turn-grows}
 use Rattle.steps.specs.StepLaws.{entry_in, coded_many}
-use Rattle.steps.specs.ArrayLaws.{entries_fewer}
+use Rattle.steps.specs.ArrayLaws.{run_at, run_written, entries_fewer, restores-same}
 use Rattle.steps.specs.PatternAtLaws.{pattern_at, pattern_end, pattern_item}
 use Rattle.steps.specs.State.{Place, stack_of, level_of, levels_of, entries_in, entries_of}
-use Rattle.steps.specs.State.{turn_as, LevelRoom, EntryRoom, Stands, Restores, LevelsKept, EndsApart, renamed, coded, Fine}
-use Rattle.steps.specs.declared.What.{What}
-use Rattle.steps.specs.declared.What.TheVariants.{Stop, Next, Split, Call}
+use Rattle.steps.specs.State.{spec_place_of, turn_of, LevelRoom, EntryRoom, Stands, Restores, LevelsKept, EndsApart, renamed, coded, Fine}
+use Rattle.steps.specs.declared.State.{State}
+use Rattle.steps.specs.declared.Turned.{Turned}
+use Rattle.steps.specs.declared.Turned.TheVariants.{Stop, Next, Split, Call}
 use Rattle.matcher.specs.declared.Goal.{Goal}
 use Rattle.matcher.specs.declared.Tally.{Tally}
 use Rattle.matcher.specs.Ready.{Given, reading_of, pattern_from, events_from, Ready, TurnTaken, Walked}
@@ -92,10 +95,6 @@ module _ {v : Given} {p m : ℕ} {s : Place} (y : Ready v p m s) where
   pub depth_room : 2 * s.depth + 2 ≤ length s.levels
   depth_room = omega (arith, ready_stands.depth, y.level-room)
 
-  -- the number of a record that is there
-  pub number_there : p < count item_layout v.pattern → p < length v.numbers
-  number_there h = omega (arith, y.pattern.numbered)
-
   -- at the end of the pattern
   module _ (e : count item_layout v.pattern ≤ p) where
     ended : pattern_from v p ≡ []
@@ -142,30 +141,28 @@ module _ (v : Given) (p : ℕ) (s : Place) (lt : p < count item_layout v.pattern
         (rw (size_of v) (entry_in v.used s.bound s.binds x (ready_stands y).known z.known refl)) z.apart
 
     pub apart-taken : {last : Bool} → EndsApart t.kind x last s.bound s.len s.binds → last ≡ ends (pattern_from v (p + 1))
-        → TurnTaken v p s Stop s 0 0
-    unfolding turn_as onward Kept Grows
+        → TurnTaken v p s Stop s.levels s.binds
+    unfolding turn_of onward Kept Grows
     apart-taken z el = record {
       there = lt;
       events = apart_none z el;
       kept = λ n k. tt;
       grows = tt;
-      back = λ e. absurd (let z : ◌≡◌ {A = ℕ} 0 1 = cc in omega arith);
+      back = restores-same s.depth s.levels;
       same = λ n. refl;
       entries_same = refl;
     }
 
-  module _ {last : Bool} (el : last ≡ ends (pattern_from v (p + 1))) (w : What) (at : Place)
-      (em : turn_as w at ≡ turn (reading_of v) (coded v.names t x) last (levels_of s) (entries_of s)) where
-    kept-turn : (m : ℕ) → Ready v p m s → Kept v.used (pattern_from v (p + 1)) m (level_of s) (stack_of s.depth s.levels) (entries_of s) (turn_as w at)
-    kept-turn m y =
-        rw em (rw (size_of v) at (turn-kept v.names (terms_of v) (valid_terms_of y) (coded v.names t x) (pattern_from v (p + 1)) m last
+  module _ {last : Bool} (el : last ≡ ends (pattern_from v (p + 1))) (m : Turned) (lv bd : List ℕ)
+      (em : turn_of m lv bd ≡ turn (reading_of v) (coded v.names t x) last (levels_of s) (entries_of s)) where
+    kept-turn : (n : ℕ) → Ready v p n s → Kept v.used (pattern_from v (p + 1)) n (level_of s) (stack_of s.depth s.levels) (entries_of s) (turn_of m lv bd)
+    kept-turn n y =
+        rw em (rw (size_of v) at (turn-kept v.names (terms_of v) (valid_terms_of y) (coded v.names t x) (pattern_from v (p + 1)) n last
         (level_of s) (stack_of s.depth s.levels) (entries_of s) (rw (size_of v) (stays_here y))))
 
     -- the walk is the turn, and then going on
-    pub turn-taken : {start len : ℕ} → LevelsKept s.depth w s.levels at.levels → entries_in s.bound at.binds ≡ entries_of s
-        → start ≡ get_or s.levels (2 * s.depth) 0 → len ≡ get_or s.levels (2 * s.depth + 1) 0 → TurnTaken v p s w at start len
-    unfolding Restores
-    turn-taken k n es el2 = record {
+    pub turn-taken : LevelsKept s.depth m s.levels lv → entries_in s.bound bd ≡ entries_of s → TurnTaken v p s m lv bd
+    turn-taken k n = record {
       there = lt;
       events = ap (λ z. walk (reading_of v) z (levels_of s) (entries_of s)) after
           ∙ walk_turn (reading_of v) (pattern_from v (p + 1)) (coded v.names t x) (levels_of s) (entries_of s)
@@ -173,7 +170,7 @@ module _ (v : Given) (p : ℕ) (s : Place) (lt : p < count item_layout v.pattern
           ∙ ap (onward (reading_of v) (pattern_from v (p + 1))) (sym em);
       kept = kept-turn;
       grows = rw em (turn-grows (reading_of v) (entries_of s) (coded v.names t x) last (levels_of s));
-      back = λ e. ap₂ (λ a b. set (set at.levels (2 * s.depth) a) (2 * s.depth + 1) b) es el2 ∙ k.back;
+      back = k.back;
       same = k.same;
       entries_same = n;
     }
@@ -195,48 +192,65 @@ moved_on y lt z rl rb = record {
   entry-room = rb;
 }
 
-module _ {v : Given} {p : ℕ} {s : Place} {w : What} {at : Place} {start len : ℕ} (k : TurnTaken v p s w at start len) where
-  pub turn_stop : w ≡ Stop → events_from v p s ≡ []
-  unfolding turn_as onward
-  turn_stop e = k.events ∙ ap (λ z. onward (reading_of v) (pattern_from v (p + 1)) (turn_as z at)) e
+-- A run that is read fits where it was.
+pub small_read : (w : List ℕ) (i : ℕ) (r : CodeRun) → ((k : ℕ) → get_or w k 0 < 4294967296) → as_run r ≡ record_at run_layout w i → SmallRun r
+small_read w i r fits h =
+    let e : as_run r ≡ record { start = get_or w (2 * i) 0; len = get_or w (2 * i + 1) 0 } = h ∙ sym (run_at w i refl refl) in
+    let s : r.start ≡ get_or w (2 * i) 0 = ap (λ (z : Run). z.start) e in
+    let l : r.len ≡ get_or w (2 * i + 1) 0 = ap (λ (z : Run). z.len) e in
+    record { start = omega (arith, s, fits (2 * i)); len = omega (arith, l, fits (2 * i + 1)) }
 
-  pub turn_call : w ≡ Call → events_from v p s ≡ reached ∷ []
-  unfolding turn_as onward
-  turn_call e = k.events ∙ ap (λ z. onward (reading_of v) (pattern_from v (p + 1)) (turn_as z at)) e
+-- The run of a level, put back.
+restored : (d : ℕ) (before after : List ℕ) → Restores d before after → Lies run_layout after (d + 1)
+    → write run_layout after d (record_at run_layout before d ∷ []) ≡ before
+unfolding Restores
+restored d before after k h =
+    ap (λ r. write run_layout after d (r ∷ [])) (sym (run_at before d refl refl)) ∙ run_written after d _ h ∙ k
 
-  turn_next : w ≡ Next → events_from v p s ≡ events_from v (p + 1) at
-  unfolding turn_as onward
-  turn_next e = k.events ∙ ap (λ z. onward (reading_of v) (pattern_from v (p + 1)) (turn_as z at)) e
+module _ {v : Given} {p : ℕ} {s : Place} {m : Turned} {lv bd : List ℕ} (k : TurnTaken v p s m lv bd) where
+  pub turn_stop : m ≡ Stop → events_from v p s ≡ []
+  unfolding turn_of onward
+  turn_stop e = k.events ∙ ap (λ z. onward (reading_of v) (pattern_from v (p + 1)) (turn_of z lv bd)) e
+
+  pub turn_call : m ≡ Call → events_from v p s ≡ reached ∷ []
+  unfolding turn_of onward
+  turn_call e = k.events ∙ ap (λ z. onward (reading_of v) (pattern_from v (p + 1)) (turn_of z lv bd)) e
 
   -- a record that does not go on leaves the levels' words
-  pub stop_same : w ≡ Stop → at.levels ≡ s.levels
-  stop_same e = k.same (λ f. let z : ◌≡◌ {A = ℕ} 0 1 = cc in omega arith)
+  pub stop_same : m ≡ Stop → lv ≡ s.levels
+  stop_same e = k.same (λ a f. let z : ◌≡◌ {A = ℕ} 0 1 = cc in omega arith)
 
-  pub call_same : w ≡ Call → at.levels ≡ s.levels
-  call_same e = k.same (λ f. let z : ◌≡◌ {A = ℕ} 0 1 = cc in omega arith)
+  pub call_same : m ≡ Call → lv ≡ s.levels
+  call_same e = k.same (λ a f. let z : ◌≡◌ {A = ℕ} 0 1 = cc in omega arith)
 
-  pub split_levels : w ≡ Split → at.levels ≡ s.levels
-  split_levels e = k.same (λ f. let z : ◌≡◌ {A = ℕ} 0 1 = cc in omega arith)
+  module _ {a : State} where
+    pub split_levels : m ≡ Split a → lv ≡ s.levels
+    split_levels e = k.same (λ b f. let z : ◌≡◌ {A = ℕ} 0 1 = cc in omega arith)
 
-  pub ready_next : {m : ℕ} → Ready v p m s → w ≡ Next → LevelRoom at.levels → EntryRoom at.binds → Ready v (p + 1) m at
-  unfolding turn_as Kept
-  ready_next {m} y e rl rb =
-      moved_on y k.there
-      (subst (λ z. Kept v.used (pattern_from v (p + 1)) m (level_of s) (stack_of s.depth s.levels) (entries_of s) (turn_as z at)) e (k.kept m y)) rl rb
+    turn_next : m ≡ Next a → events_from v p s ≡ events_from v (p + 1) (spec_place_of a lv bd)
+    unfolding turn_of onward
+    turn_next e = k.events ∙ ap (λ z. onward (reading_of v) (pattern_from v (p + 1)) (turn_of z lv bd)) e
 
-  -- no entry is lost
-  next_grows : w ≡ Next → s.bound ≤ at.bound
-  unfolding turn_as Grows
-  next_grows e =
-      let g : length (entries_of s) ≤ length (entries_of at) = subst (λ z. Grows (length (entries_of s)) (turn_as z at)) e k.grows in
-      omega (arith, decode-length run_layout s.bound s.binds, decode-length run_layout at.bound at.binds)
+    pub ready_next : {n : ℕ} → Ready v p n s → m ≡ Next a → LevelRoom lv → EntryRoom bd → Ready v (p + 1) n (spec_place_of a lv bd)
+    unfolding turn_of Kept
+    ready_next {n} y e rl rb =
+        moved_on y k.there
+        (subst (λ z. Kept v.used (pattern_from v (p + 1)) n (level_of s) (stack_of s.depth s.levels) (entries_of s) (turn_of z lv bd)) e (k.kept n y)) rl rb
 
-  -- the walk after it is done, and the levels' words are put back
-  pub next_walked : {g : Goal} {f r : Tally} {before after levels binds last : List ℕ} → w ≡ Next
-      → Walked g (events_from v (p + 1) at) f r before after at levels binds
-      → last ≡ set (set levels (2 * s.depth) start) (2 * s.depth + 1) len → Walked g (events_from v p s) f r before after s last binds
-  next_walked e h q = record {
-    written = written_same (turn_next e) h.written;
-    levels-same = q ∙ ap (λ l. set (set l (2 * s.depth) start) (2 * s.depth + 1) len) h.levels-same ∙ k.back e;
-    entries_same = entries_fewer _ at.binds s.bound at.bound (next_grows e) h.entries_same ∙ k.entries_same;
-  }
+    -- no entry is lost
+    next_grows : m ≡ Next a → s.bound ≤ a.bound
+    unfolding turn_of Grows
+    next_grows e =
+        let g : length (entries_of s) ≤ length (entries_of (spec_place_of a lv bd)) = subst (λ z. Grows (length (entries_of s)) (turn_of z lv bd)) e k.grows in
+        omega (arith, decode-length run_layout s.bound s.binds, decode-length run_layout a.bound bd)
+
+    -- the walk after it is done, and the run of the level is put back
+    pub next_walked : {g : Goal} {f r : Tally} {before after levels binds last : List ℕ} → m ≡ Next a → Lies run_layout lv (s.depth + 1)
+        → Walked g (events_from v (p + 1) (spec_place_of a lv bd)) f r before after (spec_place_of a lv bd) levels binds
+        → last ≡ write run_layout levels s.depth (record_at run_layout s.levels s.depth ∷ []) → Walked g (events_from v p s) f r before after s last binds
+    next_walked e room h q = record {
+      written = written_same (turn_next e) h.written;
+      levels-same = q ∙ ap (λ l. write run_layout l s.depth (record_at run_layout s.levels s.depth ∷ [])) h.levels-same
+          ∙ restored s.depth s.levels lv k.back room;
+      entries_same = entries_fewer _ bd s.bound a.bound (next_grows e) h.entries_same ∙ k.entries_same;
+    }

@@ -2,8 +2,6 @@
 // of candidates of the Rust become slots that are filled in the same order.
 #![tactic(auto)]
 
-pub mod status;
-
 ghost use Rattle.std.specs.Prelude.{◌≡◌, [], ◌∷◌, ◌≤◌};
 ghost use Rattle.match_spec.specs.Pattern.{name_limit};
 ghost use Rattle.match_spec.specs.Walk.{hit};
@@ -12,7 +10,18 @@ ghost use Rattle.steps.specs.State.{spec_place_of, entries_in, EntryRoom};
 ghost use Rattle.matcher.specs.Ready.{given_of, events_from, Ready, CanTurn, TurnTaken, SlotsReady, Written, Walked};
 
 use items::Item;
-use steps::{State, What};
+use steps::{State, Turned};
+use words::Run;
+
+// Why a listing stopped, with the specification's names (match_spec, Answer: `Status`): it has not and more is taken in, it has the head that was
+// wanted, a candidate came after the slots were filled, a Call or Block was reached.
+#[derive(Clone, Copy, Debug, PartialEq, Eq)]
+pub enum Status {
+    Going,
+    Done,
+    Full,
+    Called,
+}
 
 // What a listing is to bring: how many entries a candidate has, how many slots there are, and whether the head alone is wanted. A limit on
 // tries (02: 2.5) is to be two fields more.
@@ -23,20 +32,11 @@ pub struct Goal {
     pub head: bool,
 }
 
-// How far a listing is: why it stopped, one of `status`, and the candidates written.
+// How far a listing is: why it stopped, and the candidates written.
 #[derive(Clone, Copy)]
 pub struct Tally {
-    pub stop: usize,
+    pub stop: Status,
     pub count: usize,
-}
-
-// A turn as the walk takes it: what the record does, where the walk stands after it, and the two words that an Open may have written over.
-#[derive(Clone, Copy)]
-struct Taken {
-    what: What,
-    state: State,
-    start: u32,
-    len: u32,
 }
 
 // A candidate, the words of its entries in `binds`, goes into the next slot if there is one.
@@ -49,25 +49,16 @@ fn emit(binds: &[u32], g: Goal, slots: &mut [u32], f: Tally) -> Tally
     let count = f.count;
     if g.cap <= count {
         return Tally {
-            stop: status::FULL,
+            stop: Status::Full,
             count,
         };
     }
     let width = g.entries * words::RUN_WIDTH;
     let base = count * width;
-    let mut i = 0;
-    while i < width {
-        slots[base + i] = binds[i];
-        i += 1;
-    }
-    if g.head {
-        return Tally {
-            stop: status::DONE,
-            count: count + 1,
-        };
-    }
+    slots[base..base + width].copy_from_slice(&binds[..width]);
+    let stop = if g.head { Status::Done } else { Status::Going };
     Tally {
-        stop: status::GOING,
+        stop,
         count: count + 1,
     }
 }
@@ -84,38 +75,21 @@ fn take_turn(
     levels: &mut [u32],
     binds: &mut [u32],
     known: &mut [u16],
-) -> Taken
+) -> Turned
     requires { let given = given_of names.now terms.now used pattern.now numbers.now in
         CanTurn given p (spec_place_of s levels.old binds.old) × Memory names.now terms.now used known.old }
     ensures { let given = given_of names.now terms.now used pattern.now numbers.now in
         let here = spec_place_of s levels.old binds.old in
-        let after = spec_place_of result.state levels.new binds.new in
-        TurnTaken given p here result.what after result.start result.len
+        TurnTaken given p here result levels.new binds.new
         × Memory names.now terms.now used known.new }
 {
     let t = words::get::<Item>(pattern, p);
     let x = words::word(numbers, p);
     let last = steps::ends_at(pattern, p + 1);
     if steps::ends_apart(t.kind, x, last, s, binds) {
-        return Taken {
-            what: What::Stop,
-            state: s,
-            start: 0,
-            len: 0,
-        };
+        return Turned::Stop;
     }
-    let d = s.depth;
-    let start = levels[2 * d];
-    let len = levels[2 * d + 1];
-    let turned = steps::turn(names, terms, used, t, x, last, s, levels, binds, known);
-    let what = turned.what;
-    let state = turned.state;
-    Taken {
-        what,
-        state,
-        start,
-        len,
-    }
+    steps::turn(names, terms, used, t, x, last, s, levels, binds, known)
 }
 
 // The walk from record p on, with a tally that goes on. It calls itself at the next pattern record, and the split loop is inside. The words of
@@ -149,19 +123,16 @@ pub fn walk(
         }
         return emit(binds, g, slots, f);
     }
-    let d = s.depth;
-    let taken = take_turn(
+    let around = words::get::<Run>(levels, s.depth);
+    match take_turn(
         names, terms, used, pattern, numbers, p, s, levels, binds, known,
-    );
-    let what = taken.what;
-    let at = taken.state;
-    match what {
-        What::Stop => f,
-        What::Call => Tally {
-            stop: status::CALLED,
+    ) {
+        Turned::Stop => f,
+        Turned::Call => Tally {
+            stop: Status::Called,
             count: f.count,
         },
-        What::Next => {
+        Turned::Next(at) => {
             let got = walk(
                 names,
                 terms,
@@ -177,13 +148,12 @@ pub fn walk(
                 slots,
                 f,
             );
-            steps::put_back(levels, d, taken.start, taken.len);
+            words::put(levels, s.depth, around);
             got
         }
-        What::Split => {
-            let len = at.len;
+        Turned::Split(at) => {
             let mut got = f;
-            let mut k = rigid::next_split(
+            let mut next = rigid::next_split(
                 names,
                 terms,
                 used,
@@ -195,7 +165,7 @@ pub fn walk(
                 0,
                 known,
             );
-            while k <= len {
+            while let Some(k) = next {
                 let given = steps::give(at, k, binds);
                 got = walk(
                     names,
@@ -212,10 +182,10 @@ pub fn walk(
                     slots,
                     got,
                 );
-                if got.stop != status::GOING {
+                if got.stop != Status::Going {
                     return got;
                 }
-                k = rigid::next_split(
+                next = rigid::next_split(
                     names,
                     terms,
                     used,

@@ -1,5 +1,5 @@
 -- What a record of a rigid run does at the terms ahead.
-use Rattle.std.specs.Prelude.{◌≡◌, List, map, Bool, true, false, get_or, drop, ℕ, suc, zero, ◌+◌, ◌<◌, ◌≤◌}
+use Rattle.std.specs.Prelude.{◌≡◌, List, map, Bool, true, false, get_or, drop, ℕ, suc, zero, ◌+◌, ◌<◌, ◌≤◌, Option as Maybe, Some, None}
 use Rattle.std.proofs.Math.Option.{Option, some, none}
 use Rattle.term_spec.specs.Words.{record_at, count}
 use Rattle.term_spec.specs.Term.{Term, Run, term_layout, char_kind}
@@ -89,3 +89,8 @@ pub record FirstFit (f : ℕ → Bool) (k n r : ℕ) : Type 0 where
   pub high : r ≤ n + 1
   pub passed : (j : ℕ) → k ≤ j → j < r → f j ≡ false
   pub fits : r ≤ n → f r ≡ true
+
+-- So for a number that is given where there is one.
+abbrev pub FirstOf : (ℕ → Bool) → ℕ → ℕ → Maybe ℕ → Type 0
+FirstOf f k n None = FirstFit f k n (n + 1)
+FirstOf f k n (Some r) = FirstFit f k n r × (r ≤ n)

@@ -1,7 +1,8 @@
 -- Laws of the rigid run: what a record of it does at the terms ahead, exit by exit of the code, and what is left of the run after it.
 use Rattle.std.specs.Prelude.{◌≡◌, List, [], ◌∷◌, map, Bool, true, false, ◌&&◌, T, eqb, length, get_or, take, drop}
 use Rattle.std.proofs.Math.Path.{refl, ap, sym}
-use Rattle.std.proofs.Common.{◌∙◌, eq-eqb, ne_eqb, add-one, arith}
+use Rattle.std.proofs.Common.{◌∙◌, eq-eqb, ne_eqb, add-one, arith, nat_eq}
+use mir.Val.{bool_byte}
 use Rattle.std.proofs.Math.Option.{Option, some, none}
 use Rattle.std.proofs.lemmas.List.{length-map}
 use Rattle.std.proofs.Math.ListN.{get_or-map}
@@ -41,6 +42,13 @@ opens_no (suc zero) n = refl
 opens_no (suc (suc zero)) n = refl
 opens_no (suc (suc (suc zero))) n = absurd (n refl)
 opens_no (suc (suc (suc (suc k)))) n = refl
+
+pub opens_is : (k : ℕ) → bool_byte (nat_eq k 3) ≡ opens_to k
+opens_is k = go (ℕ_discrete k 3)
+  where
+    go : Dec (k ≡ 3) → bool_byte (nat_eq k 3) ≡ opens_to k
+    go (yes e) = rw (eq-eqb k 3 e) (opens_yes k e)
+    go (no n) = rw (ne_eqb k 3 n) (opens_no k n)
 
 opens_few : (k : ℕ) → opens_to k ≤ 1
 opens_few k = go (ℕ_discrete k 3)

@@ -10,9 +10,8 @@ use Rattle.match_spec.specs.Walk.{Reading, runs, cells_of}
 use Rattle.match_spec.proofs.RunLaws.{Inside}
 use Rattle.steps.specs.Turn.{Turn, stop, next, split, called, turn}
 use Rattle.steps.specs.declared.State.{State}
-use Rattle.steps.specs.declared.What.{What}
-use Rattle.steps.specs.declared.What.TheVariants.{Stop, Next, Split, Call}
 use Rattle.steps.specs.declared.Turned.{Turned}
+use Rattle.steps.specs.declared.Turned.TheVariants.{Stop, Next, Split, Call}
 
 -- Words for a level at each depth, and for the place after the deepest.
 abbrev pub LevelRoom : List ℕ → Type 0
@@ -87,16 +86,12 @@ cells_in names terms used = cells_of names (decode term_layout used terms)
 abbrev pub turn_at : List ℕ → List ℕ → ℕ → Element ℕ → Bool → Place → Turn Run
 turn_at names terms used e last s = turn (store_runs names terms used) e last (levels_of s) (entries_of s)
 
--- What the code says that a record does, as a turn.
-unfoldable pub turn_as : What → Place → Turn Run
-turn_as Stop s = stop
-turn_as Next s = next (levels_of s) (entries_of s)
-turn_as Split s = split (level_of s) (stack_of s.depth s.levels) (entries_of s)
-turn_as Call s = called
-
--- A turn that the code took, over the words that it leaves.
-abbrev pub turn_of : Turned → List ℕ → List ℕ → Turn Run
-turn_of m lv bd = turn_as m.what (spec_place_of m.state lv bd)
+-- What the code says that a record does, as a turn, over the words that it leaves.
+unfoldable pub turn_of : Turned → List ℕ → List ℕ → Turn Run
+turn_of Stop lv bd = stop
+turn_of (Next s) lv bd = next (levels_of (spec_place_of s lv bd)) (entries_of (spec_place_of s lv bd))
+turn_of (Split s) lv bd = split (left_of s) (stack_of s.depth lv) (entries_of (spec_place_of s lv bd))
+turn_of Call lv bd = called
 
 -- The term store is within its rules and its limit, and a run lies within the used terms.
 pub record RunReady (names terms : List ℕ) (used : ℕ) (r : Run) : Type 0 where
@@ -131,9 +126,9 @@ unfoldable pub Restores : ℕ → List ℕ → List ℕ → Type 0
 Restores d before after = set (set after (2 * d) (get_or before (2 * d) 0)) (2 * d + 1) (get_or before (2 * d + 1) 0) ≡ before
 
 -- What a turn leaves of the levels' words: record d may differ where it goes on, and nothing else.
-pub record LevelsKept (d : ℕ) (w : What) (before after : List ℕ) : Type 0 where
+pub record LevelsKept (d : ℕ) (m : Turned) (before after : List ℕ) : Type 0 where
   pub back : Restores d before after
-  pub same : (w ≡ Next → ⊥) → after ≡ before
+  pub same : ((s : State) → m ≡ Next s → ⊥) → after ≡ before
 
 -- A known e-variable that ends its level, with another number of terms than are left of it.
 pub record EndsApart (kind x : ℕ) (last : Bool) (bound len : ℕ) (w : List ℕ) : Type 0 where

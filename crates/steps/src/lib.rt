@@ -2,7 +2,7 @@
 // recurses.
 #![tactic(auto)]
 
-ghost use Rattle.std.specs.Prelude.{◌≡◌, List, [], ◌∷◌, ◌++◌, Bool, true, ℕ, ◌+◌, ◌*◌, ◌<◌, ◌≤◌, T, get_or, set, drop};
+ghost use Rattle.std.specs.Prelude.{◌≡◌, List, [], ◌∷◌, ◌++◌, Bool, true, ℕ, ◌+◌, ◌<◌, ◌≤◌, T, get_or, drop};
 ghost use Rattle.term_spec.specs.Words.{Lies};
 ghost use Rattle.term_spec.specs.Term.{limit, run_layout, no_run};
 ghost use Rattle.match_spec.specs.Pattern.{item_rule_k, nesting_limit, name_limit, open_kind, symbol_variable_kind, term_variable_kind};
@@ -12,7 +12,6 @@ ghost use Rattle.equality.specs.Memory.{Memory};
 ghost use Rattle.items.specs.Records.{as_item};
 ghost use Rattle.words.specs.Records.{as_run};
 ghost use Rattle.match_spec.specs.Element.{opening, closing, many};
-ghost use Rattle.steps.specs.declared.What.TheVariants.{Stop, Next};
 ghost use Rattle.steps.specs.State.{passing, giving, left_of, front_of, spec_place_of, entries_in, turn_of, turn_at, LevelRoom, EntryRoom};
 ghost use Rattle.steps.specs.State.{RunReady, InStore, InTerms, Known, Stands, LevelsKept, EndsApart, coded, pattern_in, Fine};
 
@@ -35,20 +34,13 @@ pub const LEVEL_WORDS: usize = (items::NESTING_LIMIT + 1) * words::RUN_WIDTH;
 // The words of the entries: 64 runs.
 pub const ENTRY_WORDS: usize = items::NAME_LIMIT * words::RUN_WIDTH;
 
-// What a record does, its turn: nothing fits, it goes on, it is split, it is a Call or Block.
+// What a record does, its turn: nothing fits, the walk goes on where the state says, it is split there, a Call or Block.
 #[derive(Clone, Copy)]
-pub enum What {
+pub enum Turned {
     Stop,
-    Next,
-    Split,
+    Next(State),
+    Split(State),
     Call,
-}
-
-// A turn taken: what the record does, and where the walk stands after it.
-#[derive(Clone, Copy)]
-pub struct Turned {
-    pub what: What,
-    pub state: State,
 }
 
 // k terms of the innermost level are passed.
@@ -59,8 +51,7 @@ pub fn pass(s: State, k: usize) -> State
     State {
         start: s.start + k,
         len: s.len - k,
-        depth: s.depth,
-        bound: s.bound,
+        ..s
     }
 }
 
@@ -71,13 +62,14 @@ pub fn give(s: State, k: usize, binds: &mut [u32]) -> State
         (result ≡ giving s k) × (entries_in (s.bound + 1) binds.new ≡ before ++ (front_of k (left_of s) ∷ [])) }
 {
     let i = s.bound;
-    words::set_word(binds, 2 * i, s.start);
-    words::set_word(binds, 2 * i + 1, k);
+    let front = Run {
+        start: s.start,
+        len: k,
+    };
+    words::put(binds, i, front);
     State {
-        start: s.start + k,
-        len: s.len - k,
-        depth: s.depth,
         bound: i + 1,
+        ..pass(s, k)
     }
 }
 
@@ -87,24 +79,6 @@ pub fn entry(binds: &[u32], x: usize) -> Run
     ensures { (n : ℕ) → x < n → as_run result ≡ get_or (entries_in n binds.now) x no_run }
 {
     words::get::<Run>(binds, x)
-}
-
-fn stop(s: State) -> Turned
-    ensures { result ≡ record { what = Stop; state = s } }
-{
-    Turned {
-        what: What::Stop,
-        state: s,
-    }
-}
-
-fn next(s: State) -> Turned
-    ensures { result ≡ record { what = Next; state = s } }
-{
-    Turned {
-        what: What::Next,
-        state: s,
-    }
 }
 
 // A literal: the first term equals it.
@@ -117,13 +91,13 @@ fn turn_literal(names: &[u8], terms: &[u32], t: Item, s: State) -> Turned
         → turn_of result lv bd ≡ due used (element x) last (spec_place_of s lv bd)) }
 {
     if s.len == 0 {
-        return stop(s);
+        return Turned::Stop;
     }
     let u = words::get::<Term>(terms, s.start);
     if !value::symbol_matches(names, items::literal(t), u) {
-        return stop(s);
+        return Turned::Stop;
     }
-    next(pass(s, 1))
+    Turned::Next(pass(s, 1))
 }
 
 // An Open: the first term is a bracket, whose contents become the innermost level.
@@ -134,23 +108,25 @@ fn turn_open(terms: &[u32], s: State, levels: &mut [u32]) -> Turned
         let after = levels.new in
         ((names : List ℕ) (used : ℕ) (last : Bool) (bd : List ℕ) → s.start + s.len ≤ used
         → turn_of result after bd ≡ turn_at names terms used opening last (spec_place_of s before bd))
-        × LevelsKept s.depth result.what before after }
+        × LevelsKept s.depth result before after }
 {
     if s.len == 0 {
-        return stop(s);
+        return Turned::Stop;
     }
     let u = words::get::<Term>(terms, s.start);
     if u.kind != words::BRACKET {
-        return stop(s);
+        return Turned::Stop;
     }
-    let d = s.depth;
-    words::set_word(levels, 2 * d, s.start + 1);
-    words::set_word(levels, 2 * d + 1, s.len - 1);
-    next(State {
+    let after = Run {
+        start: s.start + 1,
+        len: s.len - 1,
+    };
+    words::put(levels, s.depth, after);
+    Turned::Next(State {
         start: u.a,
         len: u.b,
-        depth: d + 1,
-        bound: s.bound,
+        depth: s.depth + 1,
+        ..s
     })
 }
 
@@ -162,14 +138,14 @@ fn turn_close(s: State, levels: &[u32]) -> Turned
         → turn_of result lv bd ≡ turn_at names terms used closing last (spec_place_of s lv bd)) }
 {
     if s.len != 0 {
-        return stop(s);
+        return Turned::Stop;
     }
     let around = words::get::<Run>(levels, s.depth - 1);
-    next(State {
+    Turned::Next(State {
         start: around.start,
         len: around.len,
         depth: s.depth - 1,
-        bound: s.bound,
+        ..s
     })
 }
 
@@ -196,20 +172,20 @@ fn turn_single(
         × Memory names.now terms.now used known.new }
 {
     if s.len == 0 {
-        return stop(s);
+        return Turned::Stop;
     }
     let u = words::get::<Term>(terms, s.start);
     if !kinds::variable_accepts(t.kind - items::S_VARIABLE, u) {
-        return stop(s);
+        return Turned::Stop;
     }
     if s.bound <= x {
-        return next(give(s, 1, binds));
+        return Turned::Next(give(s, 1, binds));
     }
     let e = entry(binds, x);
     if !equality::equal_runs(names, terms, used, e.start, e.len, s.start, 1, known) {
-        return stop(s);
+        return Turned::Stop;
     }
-    next(pass(s, 1))
+    Turned::Next(pass(s, 1))
 }
 
 // An e-variable: a known one must equal the terms ahead; one that ends its level takes what remains; an open one is split.
@@ -235,21 +211,18 @@ fn turn_expression(
 {
     if s.bound <= x {
         if last {
-            return next(give(s, s.len, binds));
+            return Turned::Next(give(s, s.len, binds));
         }
-        return Turned {
-            what: What::Split,
-            state: s,
-        };
+        return Turned::Split(s);
     }
     let e = entry(binds, x);
     if s.len < e.len {
-        return stop(s);
+        return Turned::Stop;
     }
     if !equality::equal_runs(names, terms, used, e.start, e.len, s.start, e.len, known) {
-        return stop(s);
+        return Turned::Stop;
     }
-    next(pass(s, e.len))
+    Turned::Next(pass(s, e.len))
 }
 
 // Whether a record is a known e-variable that ends its level with another number of terms than are left: then no try fits, and the terms need
@@ -258,17 +231,7 @@ pub fn ends_apart(kind: usize, x: usize, last: bool, s: State, binds: &[u32]) ->
     requires { (s.bound ≤ name_limit) × EntryRoom binds.now }
     ensures { result ≡ true → EndsApart kind x last s.bound s.len binds.now }
 {
-    if kind != items::E_VARIABLE {
-        return false;
-    }
-    if !last {
-        return false;
-    }
-    if s.bound <= x {
-        return false;
-    }
-    let e = entry(binds, x);
-    e.len != s.len
+    kind == items::E_VARIABLE && last && x < s.bound && entry(binds, x).len != s.len
 }
 
 // The turn of a record, x being the number of its name; `last` says whether its level ends after it. Of the levels it writes the place after
@@ -291,10 +254,11 @@ pub fn turn(
     ensures { let element = coded names.now (as_item t) x in
         let due = turn_at names.now terms.now used element last in
         (turn_of result levels.new binds.new ≡ due (spec_place_of s levels.old binds.old))
-        × LevelsKept s.depth result.what levels.old levels.new
+        × LevelsKept s.depth result levels.old levels.new
         × (entries_in s.bound binds.new ≡ entries_in s.bound binds.old)
         × Memory names.now terms.now used known.new }
 {
+    // The kinds are numbers, as the lent words have them, and in order: one test tells literals, one the variables of one term.
     if t.kind < items::OPEN {
         return turn_literal(names, terms, t, s);
     }
@@ -310,28 +274,12 @@ pub fn turn(
     if t.kind == items::E_VARIABLE {
         return turn_expression(names, terms, used, x, last, s, binds, known);
     }
-    Turned {
-        what: What::Call,
-        state: s,
-    }
-}
-
-// The two words of level d become what they were before an Open wrote them.
-pub fn put_back(levels: &mut [u32], d: usize, start: u32, len: u32)
-    requires { (d ≤ nesting_limit) × LevelRoom levels.old }
-    ensures { levels.new ≡ set (set levels.old (2 * d) start) (2 * d + 1) len }
-{
-    levels[2 * d] = start;
-    levels[2 * d + 1] = len;
+    Turned::Call
 }
 
 // Whether a level ends before record p.
 pub fn ends_at(pattern: &[u32], p: usize) -> bool
     ensures { (names numbers : List ℕ) → result ≡ ends (drop p (pattern_in names pattern.now numbers)) }
 {
-    if pattern.len() / items::ITEM_WIDTH <= p {
-        return true;
-    }
-    let t = words::get::<Item>(pattern, p);
-    t.kind == items::CLOSE
+    pattern.len() / items::ITEM_WIDTH <= p || words::get::<Item>(pattern, p).kind == items::CLOSE
 }
