@@ -245,7 +245,8 @@ module _ (w : List ℕ) (used : ℕ) (runs : List ℕ) (o : Chains w used runs) 
       unfolding Held others
       going_fuse n (some, is, ends) = go qs g.first g.holds (left_onto runs k p g.within e some)
         where
-          go : (ps : List Run) → Held ps held → Holds w used (others ps) v at → left runs (k - 1) ≡ fuse_onto (as_run r) ps → Going w used runs v (k - 1) at (Some (fused r n))
+          go : (ps : List Run) → Held ps held → Holds w used (others ps) v at → left runs (k - 1) ≡ fuse_onto (as_run r) ps
+              → Going w used runs v (k - 1) at (Some (fused r n))
           go [] h holds s = absurd (cc)
           go (q ∷ ps) (t, h, same) holds s =
               let run : t ≡ n = cc in

@@ -59,7 +59,8 @@ others (q ∷ qs) = qs
 
 module _ (r : Run) (s : CodeRun) where
   -- it is fused where it ends where the next one starts
-  pub onto_fuse : (q : Run) (qs : List Run) → q.start ≡ s.start → r.start + r.len ≡ s.start → fuse_onto r (q ∷ qs) ≡ record { start = r.start; len = r.len + q.len } ∷ qs
+  pub onto_fuse : (q : Run) (qs : List Run) → q.start ≡ s.start → r.start + r.len ≡ s.start
+      → fuse_onto r (q ∷ qs) ≡ record { start = r.start; len = r.len + q.len } ∷ qs
   unfolding fuse_onto fuse_head
   onto_fuse q qs h e = go (ℕ_discrete (r.start + r.len) q.start)
     where

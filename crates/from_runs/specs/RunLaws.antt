@@ -71,7 +71,8 @@ module _ (w : List ℕ) where
         ((k : ℕ) × (k < length (range_with_len 0 (length w / run_layout.width))) × HoldsAt (Ends false) (range_with_len 0 (length w / run_layout.width)) k)
         → r ≡ runs_rule terms (records run_layout w)
     each_tested true h =
-        sym (each_ends (length w / run_layout.width) 0 (omega arith) (λ k lt. let e = placed k lt in rw e at (h k 0 (omega arith) (rw length-range_with_len lt))))
+        sym (each_ends (length w / run_layout.width) 0 (omega arith)
+        (λ k lt. let e = placed k lt in rw e at (h k 0 (omega arith) (rw length-range_with_len lt))))
     each_tested false (k, lt, h) =
         let l : k < length w / run_layout.width = rw length-range_with_len at lt in
         let e = placed k l in

@@ -36,7 +36,8 @@ module _ (w : List ℕ) (i : ℕ) (n : Node) where
 
   pub concat_read : {l r : Node} → n.a < i → n.c < i → l ≡ record_at node_layout w n.a → r ≡ record_at node_layout w n.c
       → concat_rule (nodes_in w i) n
-      ≡ ltb n.a i && ltb n.c i && leb 1 l.kind && leb 1 r.kind && leb 1 n.b && leb n.b l.reach && eqb n.height (suc (max l.height r.height)) && eqb n.reach (min limit (n.b + r.reach))
+      ≡ ltb n.a i && ltb n.c i && leb 1 l.kind && leb 1 r.kind && leb 1 n.b && leb n.b l.reach
+      && eqb n.height (suc (max l.height r.height)) && eqb n.reach (min limit (n.b + r.reach))
   unfolding concat_rule
   concat_read p q d e = rw (decode-length, ← below_at w i n.a d p, ← below_at w i n.c e q) refl
 

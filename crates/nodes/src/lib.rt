@@ -179,7 +179,7 @@ pub fn reserve(nodes: &mut [u32], i: usize, a: usize, b: usize, c: usize)
     words::put(nodes, i, n);
 }
 
-// A child of a reserved Concat, where `before` is the node made before it.
+// A child of a reserved Concat, where `before` is the node made before it. No Option, since the 0 lies in a word of the record until then.
 fn child(c: usize, before: usize) -> usize
     ensures { result ≡ child_of c before }
 {
