@@ -1,5 +1,5 @@
 -- Laws of numbers: runs are compared by them, equal terms have one key, and the tables with one term more.
-use Rattle.std.specs.Prelude.{◌≡◌, refl, List, Bool, true, false, eqb, get_or, take, drop, slice_range, ℕ, suc, zero, ◌+◌, ◌-◌, ◌<◌, ◌≤◌}
+use Rattle.std.specs.Prelude.{◌≡◌, refl, List, Bool, true, false, eqb, get_or, take, drop, ℕ, suc, zero, ◌+◌, ◌-◌, ◌<◌, ◌≤◌}
 use Rattle.std.proofs.Common.{ap, ◌∙◌, eq-eqb, ne_eqb, get_or-take, get_or-drop, ext_get_or, arith}
 use Rattle.std.proofs.Math.Path.{sym}
 use Rattle.std.proofs.Math.Decide.{ℕ_discrete, dec_lt}
@@ -44,13 +44,6 @@ pub never : {P : Type 0} {b : Bool} → b ≡ true → b ≡ false → P
 never p q = let z : ◌≡◌ {A = ℕ} 0 1 = cc in absurd (omega arith)
 
 -- ---- runs by their numbers ----
-
--- The parts from s on and from p on are the same.
-pub parts_same : (numbers : List ℕ) (s p n : ℕ) → slice_range numbers s (s + n) ≡ slice_range numbers p (p + n) → Same numbers s p n
-parts_same numbers s p n e i lt = sym (part s) ∙ ap (λ l. get_or l i 0) e ∙ part p
-  where
-    part : (a : ℕ) → get_or (slice_range numbers a (a + n)) i 0 ≡ get_or numbers (a + i) 0
-    part a = get_or-take (a + n - a) (drop a numbers) i 0 (omega arith) ∙ get_or-drop a numbers i 0
 
 -- More of the numbers that follow are the same.
 pub same_more : (numbers : List ℕ) (s p k m : ℕ) → Same numbers s p k → Same numbers (s + k) (p + k) m → Same numbers s p (k + m)
