@@ -36,6 +36,31 @@ below-zeros text p (suc k) = ap₂ ◌&&◌ (below_one (number_at text p)) (belo
 -- For the tests of a line's numbers.
 pub ruleset below_rules = (below_numbers, below-zeros)
 
+module _ (text : List ℕ) (bound p k : ℕ) where
+  -- What is asked of k of them is asked of those left where i are passed: at first of all.
+  pub below-start : spec_numbers_below text bound p k ≡ spec_numbers_below text bound (p + column_width * 0) (k - 0)
+  below-start = let z : p ≡ p + column_width * 0 = omega arith in let e : k ≡ k - 0 = omega arith in ap₂ (spec_numbers_below text bound) z e
+
+  -- Then of one and the rest, at the end of none.
+  module _ (i : ℕ) (e : spec_numbers_below text bound p k ≡ spec_numbers_below text bound (p + column_width * i) (k - i)) where
+    module _ {x : ℕ} (h : i < k) (n : x ≡ number_at text (p + column_width * i)) where
+      below_left : spec_numbers_below text bound p k ≡ ltb x bound && spec_numbers_below text bound (p + column_width * (i + 1)) (k - (i + 1))
+      unfolding spec_numbers_below
+      below_left =
+          let one : k - i ≡ suc (k - (i + 1)) = omega arith in
+          let z : p + column_width * i + column_width ≡ p + column_width * (i + 1) = omega arith in
+          e ∙ rw (one, z, n)
+
+      pub below_stop : bound ≤ x → false ≡ spec_numbers_below text bound p k
+      below_stop w = sym (below_left ∙ simp (le-ltb x bound w))
+
+      pub below_next : x < bound → spec_numbers_below text bound p k ≡ spec_numbers_below text bound (p + column_width * (i + 1)) (k - (i + 1))
+      below_next w = below_left ∙ simp (lt-ltb x bound w)
+
+    pub below_done : k ≤ i → true ≡ spec_numbers_below text bound p k
+    unfolding spec_numbers_below
+    below_done h = let z : k - i ≡ 0 = omega arith in sym (rw z at e)
+
 and_false : (b : Bool) → b && false ≡ false
 and_false true = refl
 and_false false = refl
@@ -117,9 +142,55 @@ module _ (text : List ℕ) (p i : ℕ) (out₀ : List ℕ) (w : ℕ) where
       g ∙ ap₂ (λ o y. set o (w + i) y) e f ∙ laid_at-snoc out₀ w (w + i) (numbers_at text p i) (number_at text (p + column_width * i)) (ap (w +◌) (sym (numbers_length text p i))) h
       ∙ ap (laid_at out₀ w) (rw add-one (sym (numbers_more text p i)))
 
+  pub numbers_all : (k : ℕ) {out : List ℕ} → i ≤ k → k ≤ i → out ≡ laid_at out₀ w (numbers_at text p i) → out ≡ laid_at out₀ w (numbers_at text p k)
+  numbers_all k h g e = let z : i ≡ k = omega arith in rw z at e
+
 -- ---- lines ----
 
+-- A line, test by test: its numbers, its zeros, its newline.
+module _ (text : List ℕ) (p kept zeros : ℕ) {a : Bool} (e : a ≡ spec_numbers_below text beyond p kept) where
+  pub line_numbers_stop : a ≡ false → false ≡ spec_line_ok text p kept zeros
+  unfolding spec_line_ok
+  line_numbers_stop f = simp (← below_numbers, ← e, f)
+
+  module _ {b : Bool} (g : b ≡ spec_numbers_below text 1 (p + column_width * kept) zeros) (t : a ≡ true) where
+    pub line_zeros_stop : b ≡ false → false ≡ spec_line_ok text p kept zeros
+    unfolding spec_line_ok
+    line_zeros_stop f = simp (← below_numbers, ← below-zeros, ← e, ← g, t, f)
+
+    pub line_end : {x q : ℕ} → b ≡ true → q ≡ column_width * (kept + zeros) → x ≡ get_or text (p + q) 0 → eqb x 10 ≡ spec_line_ok text p kept zeros
+    unfolding spec_line_ok
+    line_end f z n = simp (← below_numbers, ← below-zeros, ← e, ← g, t, f, ← z, ← n)
+
+-- The lines that are left fit: at first all, then one and the rest.
+pub room-start : (p w n m : ℕ) → p + w * n ≤ m → p + w * (n - 0) ≤ m
+room-start p w n m h = let z : n - 0 ≡ n = omega arith in rw z h
+
+pub room_next : (at w n i m : ℕ) → i < n → at + w * (n - i) ≤ m → at + w + w * (n - (i + 1)) ≤ m
+room_next at w n i m h k = let z : n - i ≡ suc (n - (i + 1)) = omega arith in let l = rw z at k in omega arith
+
 module _ (text : List ℕ) (kept zeros : ℕ) where
+  -- n - i lines are left from `at` on: at first all, then one and the rest, at the end none.
+  pub lines_start : (p n : ℕ) → spec_lines_ok text p kept zeros n ≡ spec_lines_ok text p kept zeros (n - 0)
+  lines_start p n = let z : n ≡ n - 0 = omega arith in ap (spec_lines_ok text p kept zeros) z
+
+  module _ (p at n i : ℕ) (e : spec_lines_ok text p kept zeros n ≡ spec_lines_ok text at kept zeros (n - i)) where
+    lines_left : i < n → spec_lines_ok text at kept zeros (n - i) ≡ spec_line_ok text at kept zeros && spec_lines_ok text (at + line_width kept zeros) kept zeros (n - (i + 1))
+    unfolding spec_lines_ok
+    lines_left h = let z : n - i ≡ suc (n - (i + 1)) = omega arith in rw z
+
+    pub lines_stop : {b : Bool} → i < n → b ≡ spec_line_ok text at kept zeros → b ≡ false → false ≡ spec_lines_ok text p kept zeros n
+    lines_stop h l f = sym (e ∙ lines_left h ∙ simp (← l, f))
+
+    pub lines_next :
+        {b : Bool} {w : ℕ} → i < n → w ≡ line_width kept zeros → b ≡ spec_line_ok text at kept zeros → b ≡ true
+        → spec_lines_ok text p kept zeros n ≡ spec_lines_ok text (at + w) kept zeros (n - (i + 1))
+    lines_next h z l f = e ∙ lines_left h ∙ simp (← l, f, z)
+
+    pub lines_done : n ≤ i → true ≡ spec_lines_ok text p kept zeros n
+    unfolding spec_lines_ok
+    lines_done h = let z : n - i ≡ 0 = omega arith in sym (rw z at e)
+
   module _ {w : ℕ} (wide : w ≡ line_width kept zeros) where
     -- All lines are in form, or one is not.
     pub lines_true : (p n : ℕ) → ((j : ℕ) → j < n → true ≡ spec_line_ok text (p + w * j) kept zeros) → true ≡ spec_lines_ok text p kept zeros n
@@ -182,6 +253,12 @@ module _ (text : List ℕ) (kept zeros : ℕ) where
   words_kept : (p i : ℕ) (out₀ : List ℕ) → kept * i ≤ length out₀ → length (laid (words_at text p kept zeros i) out₀) ≡ length out₀
   words_kept p i out₀ h = laid-length (words_at text p kept zeros i) out₀ (omega (arith, words_length text p kept zeros i))
 
+  pub words_room :
+      (p w n i : ℕ) (out₀ : List ℕ) {out : List ℕ} → i < n → kept * n ≤ length out₀ → w ≡ kept * i → out ≡ laid (words_at text p kept zeros i) out₀ → w + kept ≤ length out
+  words_room p w n i out₀ h k b e =
+      let l : kept * i + kept ≤ length out₀ = part_at kept n i _ h k in
+      omega (arith, ap length e ∙ words_kept p i out₀ (omega arith))
+
   pub words_set_lem :
       (p at w i : ℕ) (out₀ : List ℕ) {out new : List ℕ} → kept * i + kept ≤ length out₀ → at ≡ p + line_width kept zeros * i → w ≡ kept * i → out ≡ laid (words_at text p kept zeros i) out₀
       → new ≡ laid_at out w (numbers_at text at kept) → new ≡ laid (words_at text p kept zeros (i + 1)) out₀
@@ -190,3 +267,9 @@ module _ (text : List ℕ) (kept zeros : ℕ) where
       g ∙ rw (a, b, e) (
       ap (λ l. laid_at l (kept * i) y) (sym (laid_at-start o x)) ∙ laid_at_next o 0 (kept * i) x y (omega (arith, words_length text p kept zeros i)) (omega arith)
       ∙ laid_at-start o (x ++ y) ∙ ap (λ l. laid l o) (sym (words_more p i) ∙ ap (words_at text p kept zeros) (sym (add-one i))))
+
+  pub words_same : (p i n : ℕ) (out₀ : List ℕ) {out : List ℕ} → i ≤ n → n ≤ i → kept * n ≤ length out₀ → out ≡ laid (words_at text p kept zeros i) out₀ → length out ≡ length out₀
+  words_same p i n out₀ h g k e = let z : i ≡ n = omega arith in ap length e ∙ words_kept p i out₀ (rw z k)
+
+  pub words_all : (p i n : ℕ) (out₀ : List ℕ) {out : List ℕ} → i ≤ n → n ≤ i → out ≡ laid (words_at text p kept zeros i) out₀ → out ≡ laid (words_at text p kept zeros n) out₀
+  words_all p i n out₀ h g e = let z : i ≡ n = omega arith in rw z at e

@@ -9,11 +9,28 @@ use Rattle.sheet_form.specs.declared.Counts.{Counts as CodeCounts}
 use Rattle.words.specs.declared.refusal.Refusal.{Refusal}
 use Rattle.words.specs.Refusals.{told}
 
--- Columns read so far, as the specification has them.
+-- Columns read so far, as the specification has them: whether they are in form, whether a digit was seen, the number.
+unfoldable pub columns_by : Bool → Bool → ℕ → SpecColumns
+columns_by true true v = shown v
+columns_by true false v = blank
+columns_by false seen v = unfit
+
+-- The code's columns.
 abbrev pub as_columns : Columns → SpecColumns
 as_columns Blank = blank
 as_columns (Number v) = shown v
 as_columns Unfit = unfit
+
+-- Whether they are in form, and whether a digit was seen.
+abbrev pub fit_of : Columns → Bool
+fit_of Blank = true
+fit_of (Number v) = true
+fit_of Unfit = false
+
+abbrev pub seen_of : Columns → Bool
+seen_of Blank = false
+seen_of (Number v) = true
+seen_of Unfit = false
 
 -- The number so far, 0 where there is none.
 abbrev pub value_of : Columns → ℕ

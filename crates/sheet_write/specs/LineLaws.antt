@@ -1,15 +1,15 @@
 -- Laws of columns, lines and records written one after another.
 use Rattle.std.specs.Prelude.{◌≡◌, refl, List, [], ◌∷◌, ◌++◌, length, take, drop, replicate, get_or, set, ℕ, suc, zero, ◌+◌, ◌-◌, ◌*◌, ◌≤◌, ◌<◌}
-use Rattle.std.proofs.Common.{ap, ap₂, sym, ◌∙◌, append_assoc, append-nil, length-append, take-suc, drop-drop, length-take-le, take_all, arith, add-one}
+use Rattle.std.proofs.Common.{ap, ap₂, sym, ◌∙◌, append_assoc, append-nil, length-append, length-drop, take-suc, get_or-drop, drop-drop, length-take-le, take_all, arith, add-one}
 use Rattle.std.proofs.lemmas.List.{length-replicate}
 use Rattle.term_spec.proofs.ListLaws.{part_length}
 use Rattle.sheet_spec.specs.Sheet.{column_width, count_columns, column, columns, line, line_width, lines}
 use Rattle.sheet_spec.specs.Job.{laid_at}
 use Rattle.sheet_spec.proofs.ColumnLaws.{column-length}
 use Rattle.sheet_spec.proofs.LineLaws.{columns-length, line-length, columns-append}
-use Rattle.sheet_form.specs.Form.{line_bytes}
-use Rattle.sheet_form.specs.FormLaws.{room_at, part_at}
-use Rattle.sheet_spec.proofs.LaidLaws.{laid_at-length, laid_at-set, laid_at_none, laid_at_next, laid_at_then}
+use Rattle.sheet_form.specs.Form.{line_bytes, most_columns}
+use Rattle.sheet_form.specs.FormLaws.{first-zeros, room_at, part_at}
+use Rattle.sheet_spec.proofs.LaidLaws.{laid_at-length, laid_at-set, laid_at_none, laid_at_next, laid_at_then, laid_at-snoc}
 use borrow.Rule.Slice.PartMut.{put_mid}
 
 -- ---- a line of four numbers ----
@@ -44,31 +44,59 @@ columns-turn old out new l p i v n h e f =
     ∙ ap (laid_at old p) (ap (columns l ++◌) (sym (append-nil (column v))) ∙ sym (columns-append l (v ∷ [])))
 
 -- One word more.
-pub words_turn : (old out new words : List ℕ) (p i v : ℕ) → i < length words → p + column_width * length words ≤ length old → out ≡ laid_at old p (columns (take i words))
+pub words_turn : (old out new words : List ℕ) (p w i v : ℕ) → w + i < length words → p + column_width * i ≤ length old → out ≡ laid_at old p (columns (take i (drop w words)))
+    → v ≡ get_or words (w + i) 0 → new ≡ laid_at out (p + column_width * i) (column v) → new ≡ laid_at old p (columns (take (i + 1) (drop w words)))
+words_turn old out new words p w i v k h e g f =
+    columns-turn old out new (take i (drop w words)) p i v (part_length words w i (omega arith)) h e f
+    ∙ ap (λ x. laid_at old p (columns (take i (drop w words) ++ x ∷ []))) (g ∙ sym (get_or-drop w words i 0))
+    ∙ ap (λ x. laid_at old p (columns x)) (sym (take-suc (drop w words) i 0 (omega (arith, length-drop w words))) ∙ ap (λ n. take n (drop w words)) (sym (add-one i)))
+
+-- All the words.
+pub words_whole : (old out words : List ℕ) (p w i kept : ℕ) → i ≡ kept → out ≡ laid_at old p (columns (take i (drop w words))) → out ≡ laid_at old p (columns (take kept (drop w words)))
+words_whole old out words p w i kept h e = e ∙ ap (λ n. laid_at old p (columns (take n (drop w words)))) h
+
+-- The same of a slice of words: one more.
+pub slice_turn : (old out new words : List ℕ) (p i v : ℕ) → i < length words → p + column_width * length words ≤ length old → out ≡ laid_at old p (columns (take i words))
     → v ≡ get_or words i 0 → new ≡ laid_at out (p + column_width * i) (column v) → new ≡ laid_at old p (columns (take (i + 1) words))
-words_turn old out new words p i v k h e g f =
+slice_turn old out new words p i v k h e g f =
     columns-turn old out new (take i words) p i v (length-take-le i words (omega arith)) (omega arith) e f
     ∙ ap (λ x. laid_at old p (columns (take i words ++ x ∷ []))) g
     ∙ ap (λ x. laid_at old p (columns x)) (sym (take-suc words i 0 k) ∙ ap (λ n. take n words) (sym (add-one i)))
 
 -- None yet.
-pub words_start : (old words : List ℕ) (p : ℕ) → old ≡ laid_at old p (columns (take 0 words))
+pub slice_start : (old words : List ℕ) (p : ℕ) → old ≡ laid_at old p (columns (take 0 words))
 unfolding columns
-words_start old words p = sym (laid_at_none old p)
+slice_start old words p = sym (laid_at_none old p)
 
 -- All the words.
-pub words_whole : (old out words : List ℕ) (p i : ℕ) → length words ≤ i → out ≡ laid_at old p (columns (take i words)) → out ≡ laid_at old p (columns words)
-words_whole old out words p i h e = e ∙ ap (λ l. laid_at old p (columns l)) (take_all i words h)
+pub slice_whole : (old out words : List ℕ) (p i : ℕ) → length words ≤ i → out ≡ laid_at old p (columns (take i words)) → out ≡ laid_at old p (columns words)
+slice_whole old out words p i h e = e ∙ ap (λ l. laid_at old p (columns l)) (take_all i words h)
 
 -- ---- records ----
 
 -- Words, zeros and a newline.
 pub record_laid :
+    (old o1 o2 o3 words : List ℕ) (p w kept fill : ℕ) {q : ℕ} → fill ≤ most_columns → w + kept ≤ length words → p + line_width kept fill ≤ length old
+    → o1 ≡ laid_at old p (columns (take kept (drop w words))) → o2 ≡ laid_at o1 (p + column_width * kept) (columns (take fill (replicate most_columns 0)))
+    → q ≡ column_width * (kept + fill) → o3 ≡ laid_at o2 (p + q) (10 ∷ []) → o3 ≡ laid_at old p (line (take kept (drop w words) ++ replicate fill 0))
+unfolding line
+record_laid old o1 o2 o3 words p w kept fill enough k h e1 e2 at-end e3 =
+    let l = take kept (drop w words) in
+    let z = replicate {A = ℕ} fill 0 in
+    let n = columns-length l ∙ ap (column_width *◌) (part_length words w kept k) in
+    let j = columns-length z ∙ ap (column_width *◌) (length-replicate {A = ℕ} fill 0) in
+    let g = e2 ∙ ap (λ x. laid_at o1 (p + column_width * kept) (columns x)) (first-zeros fill most_columns enough) in
+    let f2 = laid_at_then old o1 o2 p (p + column_width * kept) (columns l) (columns z) (omega arith) (omega arith) e1 g ∙ ap (laid_at old p) (sym (columns-append l z)) in
+    let r = ap length (columns-append l z) ∙ length-append (columns l) (columns z) in
+    laid_at_then old o2 o3 p _ (columns (l ++ z)) (10 ∷ []) (omega arith) (omega arith) f2 e3
+
+-- The same of words in a slice, where the newline is set.
+pub record_set :
     (old o1 o2 l z : List ℕ) (p kept fill q : ℕ) → z ≡ replicate fill 0 → length l ≡ kept → p + line_width kept fill ≤ length old
     → o1 ≡ laid_at old p (columns l) → o2 ≡ laid_at o1 (p + column_width * kept) (columns z)
     → q ≡ column_width * (kept + fill) → set o2 (p + q) 10 ≡ laid_at old p (line (l ++ replicate fill 0))
 unfolding line
-record_laid old o1 o2 l y p kept fill q zeros n h e1 g at-end =
+record_set old o1 o2 l y p kept fill q zeros n h e1 g at-end =
     let z = replicate {A = ℕ} fill 0 in
     let j = columns-length z ∙ ap (column_width *◌) (length-replicate {A = ℕ} fill 0) in
     let i = columns-length l ∙ ap (column_width *◌) n in
@@ -78,9 +106,24 @@ record_laid old o1 o2 l y p kept fill q zeros n h e1 g at-end =
     let m : length o2 ≡ length old = ap length f2 ∙ laid_at-length old p (columns (l ++ z)) (omega arith) in
     laid_at_then old o2 (set o2 (p + q) 10) p (p + q) (columns (l ++ z)) (10 ∷ []) (omega arith) (omega arith) f2 (laid_at-set o2 (p + q) 10 (omega arith))
 
+-- Room for n parts of k is room for one and for those after it.
+pub room-turn : (a k i n len : ℕ) → i < n → a + k * (n - i) ≤ len → a + k + k * (n - (i + 1)) ≤ len
+room-turn a k i n len lt h =
+    let z : n - i ≡ suc (n - (i + 1)) = omega arith in
+    let e : k * suc (n - (i + 1)) ≡ k + k * (n - (i + 1)) = omega arith in
+    omega (arith, ap (k *◌) z)
+
+-- None is written yet.
+pub room-start : (a k n len : ℕ) → a + k * n ≤ len → a + k * (n - 0) ≤ len
+room-start a k n len h = let z : n - 0 ≡ n = omega arith in omega (arith, ap (k *◌) z)
+
 -- All lines are left to write.
-pub lines_start : (old words : List ℕ) (p w kept fill n : ℕ) → laid_at old (p + w * 0) (lines kept fill (n - 0) (drop (kept * 0) words)) ≡ laid_at old p (lines kept fill n words)
-lines_start old words p w kept fill n =
+pub lines_start : (old words : List ℕ) (p kept fill n : ℕ) → laid_at old p (lines kept fill (n - 0) (drop 0 words)) ≡ laid_at old p (lines kept fill n words)
+lines_start old words p kept fill n = let z : n - 0 ≡ n = omega arith in ap (λ m. laid_at old p (lines kept fill m words)) z
+
+-- The same by the place of the first.
+pub lines_unwritten : (old words : List ℕ) (p w kept fill n : ℕ) → laid_at old (p + w * 0) (lines kept fill (n - 0) (drop (kept * 0) words)) ≡ laid_at old p (lines kept fill n words)
+lines_unwritten old words p w kept fill n =
     let z : n - 0 ≡ n = omega arith in
     let y : p + w * 0 ≡ p = omega arith in
     let x : kept * 0 ≡ 0 = omega arith in
@@ -128,6 +171,18 @@ lines-whole old out words rest p at kept fill n zero h e = sym (laid_at_none out
 lines-whole old out words rest p at kept fill n (suc left) h e = absurd (omega arith)
 
 -- ---- bytes copied ----
+
+-- One byte more.
+pub bytes-turn : (old out bytes : List ℕ) (p i : ℕ) → i < length bytes → p + i < length old → out ≡ laid_at old p (take i bytes)
+    → set out (p + i) (get_or bytes i 0) ≡ laid_at old p (take (i + 1) bytes)
+bytes-turn old out bytes p i lt h e =
+    ap (λ x. set x (p + i) (get_or bytes i 0)) e
+    ∙ laid_at-snoc old p (p + i) (take i bytes) (get_or bytes i 0) (omega (arith, length-take-le i bytes (omega arith))) h
+    ∙ ap (laid_at old p) (sym (take-suc bytes i 0 lt) ∙ ap (λ n. take n bytes) (sym (add-one i)))
+
+-- All of them.
+pub bytes_whole : (old out bytes : List ℕ) (p i : ℕ) → length bytes ≤ i → out ≡ laid_at old p (take i bytes) → out ≡ laid_at old p bytes
+bytes_whole old out bytes p i h e = e ∙ ap (laid_at old p) (take_all i bytes h)
 
 -- Bytes in the place of as many.
 pub bytes-laid : (old bytes : List ℕ) (p k : ℕ) → k ≡ length bytes → put_mid p k old bytes ≡ laid_at old p bytes

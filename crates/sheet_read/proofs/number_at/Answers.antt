@@ -1,6 +1,6 @@
 use Rattle.std.proofs.Common.{refl, arith}
 use Rattle.sheet_spec.specs.Sheet.{scan}
-use Rattle.sheet_read.specs.NumberLaws.{tens, tens-bound, tens-more, scan_byte, ten_bytes, show_small, show_large, show_none}
+use Rattle.sheet_read.specs.NumberLaws.{tens, tens-bound, tens-more, scan_byte, ten_bytes, columns_small, columns_large, show_none}
 use Rattle.sheet_read.proofs.number_at.Goals as goal
 
 pub loop-b-init : goal.loop-b-init
@@ -18,7 +18,7 @@ pub returns-in_default : goal.returns-in_default
 returns-in_default c = show_none _ _ _ (omega (arith, ten_bytes _ _ c.requires)) _ c.loop-b.invariant.0 c.in_default.not-Number
 
 pub returns-then-v-lt-BEYOND : goal.returns-then-v-lt-BEYOND
-returns-then-v-lt-BEYOND c = show_small _ _ _ (omega (arith, ten_bytes _ _ c.requires)) _ c.loop-b.invariant.0 c.in-Number.v c.in-Number.is c.if-v-lt-BEYOND.true
+returns-then-v-lt-BEYOND c = columns_small _ _ _ (omega (arith, ten_bytes _ _ c.requires)) _ c.loop-b.invariant.0 c.in-Number.v c.in-Number.is c.if-v-lt-BEYOND.true
 
 pub returns-else-v-lt-BEYOND : goal.returns-else-v-lt-BEYOND
-returns-else-v-lt-BEYOND c = show_large _ _ _ (omega (arith, ten_bytes _ _ c.requires)) _ c.loop-b.invariant.0 c.in-Number.v c.in-Number.is c.if-v-lt-BEYOND.false
+returns-else-v-lt-BEYOND c = columns_large _ _ _ (omega (arith, ten_bytes _ _ c.requires)) _ c.loop-b.invariant.0 c.in-Number.v c.in-Number.is c.if-v-lt-BEYOND.false

@@ -1,7 +1,7 @@
 -- Each return is the law of its case.
 use Rattle.words.specs.Refusals.{spec_number, told}
 use Rattle.sheet_read.specs.Read.{read_of}
-use Rattle.sheet_read.specs.SheetLaws.{sheet-short, sheet_missing, sheet_unfit, slices_short, sheet_read_lem, in_form_of, head_limits}
+use Rattle.sheet_read.specs.SheetLaws.{sheet-short, sheet_missing, sheet_unfit, slices_short, sheet_read_held, in_form_of, head_limits}
 use Rattle.sheet_read.proofs.read_sheet.Goals as goal
 
 pub returns-then-text-lt-LINE : goal.returns-then-text-lt-LINE
@@ -25,4 +25,4 @@ returns-then-not-fits c = slices_short _ _ _ _ c.in-Some.ensures (in_form_of _ _
 
 pub returns : goal.returns
 unfolding read_of told spec_number
-returns c = sheet_read_lem _ _ _ _ c.in-Some.ensures (in_form_of _ _ c.if-not-form_ok.ensures) c.if-not-fits.ensures c.read_body.ensures
+returns c = sheet_read_held _ _ _ _ c.in-Some.ensures (in_form_of _ _ c.if-not-form_ok.ensures) c.if-not-fits.ensures c.read_body.ensures

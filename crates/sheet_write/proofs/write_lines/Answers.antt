@@ -1,11 +1,11 @@
 use Rattle.std.proofs.Common.{◌*◌, length, ap, ◌∙◌, arith}
 use Rattle.sheet_spec.specs.Sheet.{line_width}
 use Rattle.sheet_form.specs.FormLaws.{room_at}
-use Rattle.sheet_write.specs.LineLaws.{record_size, lines_start, lines_more, lines-whole}
+use Rattle.sheet_write.specs.LineLaws.{record_size, lines_unwritten, lines_more, lines-whole}
 use Rattle.sheet_write.proofs.write_lines.Goals as goal
 
 pub loop-i-init : goal.loop-i-init
-loop-i-init c = lines_start _ _ _ _ _ _ _
+loop-i-init c = lines_unwritten _ _ _ _ _ _ _
 
 pub write_record-requires : goal.write_record-requires
 write_record-requires c = (

@@ -1,10 +1,12 @@
 -- The parts, laid one after another.
 use Rattle.std.proofs.Common.{arith}
+use Rattle.sheet_spec.proofs.SheetLaws.{spec_counts_of}
 use Rattle.sheet_spec.proofs.LaidLaws.{laid_at-set}
 use Rattle.sheet_write.specs.SheetLaws.{parts-laid}
 use Rattle.sheet_write.proofs.Sheet.write_to.Goals as goal
 
 pub returns : goal.returns
+unfolding spec_counts_of
 returns c =
     parts-laid _ _ c.requires.counts c.requires.room.end record {
       head = c.write_line.ensures;
