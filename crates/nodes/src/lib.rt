@@ -14,13 +14,6 @@ ghost use Rattle.nodes.specs.Complete.{reserved, child_of, completed, last_made,
 
 use words::Node;
 
-// The smaller of two.
-pub fn smaller(a: usize, b: usize) -> usize
-    ensures { result ≡ min a b }
-{
-    a.min(b)
-}
-
 // ---- rules ----
 
 // The only Nil.
