@@ -82,7 +82,8 @@ pub fn number(numbers: &[u16], i: usize) -> usize
     usize::from(numbers[i])
 }
 
-// The digest of the first i numbers.
+// The digest of the first i numbers. Numbers, marks and base are lent one by one: the numbering writes to both arrays between two digests, so a struct
+// of the three would be made anew for each and be no plainer.
 fn digest_front(numbers: &[u16], marks: &[u32], base: usize, i: usize) -> usize
     requires { (base < prime) × (i ≤ length numbers.now) × Marked base numbers.now marks.now i }
     ensures { result ≡ digest base (take i numbers.now) }
