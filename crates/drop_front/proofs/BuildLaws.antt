@@ -23,7 +23,7 @@ use Rattle.nodes.specs.CompleteLaws.{child_open, child_known, last_next, last_no
 use Rattle.drop_front.specs.declared.Stop.{Stop}
 use Rattle.drop_front.specs.declared.Stop.TheVariants.{Stay, Cut, Under}
 use Rattle.drop_front.specs.DropFront.{Stopped, StoppedIn, plan_in, Room}
-use Rattle.drop_front.specs.StopLaws.{makes_stay, makes_cut, makes_under}
+use Rattle.drop_front.specs.StopLaws.{stop_as, makes_stay, makes_cut, makes_under}
 
 -- ---- a plan within the outer Concats in the words ----
 
@@ -228,20 +228,20 @@ module _ (w : List ℕ) (used node count end : ℕ) (s : AnyStore w used) (asked
     down_reaches = record { low = d.reaches.low; fits = rw d.below d.reaches.fits }
 
     -- the stop that was found, over the nodes at entry
-    stopped : {x : Stop} → StoppedIn v at left x → Stopped ns at left x
-    stopped stop = rw d.below at (stop used down_store down_reaches)
+    stopped : {x y : Stop} → x ≡ y → StoppedIn v at left x → Stopped ns at left y
+    stopped e stop = rw d.below at (stop_as (nodes_in v used) at left e (stop used down_store down_reaches))
 
-    pub at_stay : (x : ℕ) → StoppedIn v at left (Stay x) → Bottom w used node count end v hi x
+    pub at_stay : (x : ℕ) {stop : Stop} → stop ≡ Stay x → StoppedIn v at left stop → Bottom w used node count end v hi x
     unfolding shrink drop_node
-    at_stay x stop =
-        let t : Stopped ns at left (Stay x) = stopped stop in
+    at_stay x same stop =
+        let t : Stopped ns at left (Stay x) = stopped same stop in
         let e : hi ≡ used = omega (arith, d.made, makes_stay ns at left t) in
         bottom v hi x (stay x) (rw e d.below) refl (rw t.plan d.all) d.lefts d.within d.above d.size
 
-    pub at_cut : (a b c : ℕ) → StoppedIn v at left (Cut a b c) → AtCut w used node count end v hi a b c
+    pub at_cut : (a b c : ℕ) {stop : Stop} → stop ≡ Cut a b c → StoppedIn v at left stop → AtCut w used node count end v hi a b c
     unfolding shrink drop_node Lasts
-    at_cut a b c stop =
-        let t : Stopped ns at left (Cut a b c) = stopped stop in
+    at_cut a b c same stop =
+        let t : Stopped ns at left (Cut a b c) = stopped same stop in
         let h : hi ≡ used + 1 = omega (arith, d.made, makes_cut ns at left t) in
         let k : Cuts (length xs) ns a b c = rw (← t.plan) at (lasts at left d.reaches) in
         let room : Lies node_layout v (used + 1) = omega (arith, h, d.within, d.size, o.room) in
@@ -263,10 +263,10 @@ module _ (w : List ℕ) (used node count end : ℕ) (s : AnyStore w used) (asked
               (put-length v used n room ∙ d.size));
         }
 
-    pub at_under : (x k m r : ℕ) → StoppedIn v at left (Under x k m r) → AtUnder w used node count end v hi at x k m r
+    pub at_under : (x k m r : ℕ) {stop : Stop} → stop ≡ Under x k m r → StoppedIn v at left stop → AtUnder w used node count end v hi at x k m r
     unfolding Lasts
-    at_under x k m r stop =
-        let t : Stopped ns at left (Under x k m r) = stopped stop in
+    at_under x k m r same stop =
+        let t : Stopped ns at left (Under x k m r) = stopped same stop in
         let g = makes_under ns at left t in
         let q : UnderOk xs ns (drop_plan ns x k) m r × Lasts xs ns (drop_plan ns x k) = rw (← t.plan) at (lasts at left d.reaches) in
         let room : Lies node_layout v (hi - 1 + 1) = omega (arith, d.made, g, d.within, d.size, o.room) in

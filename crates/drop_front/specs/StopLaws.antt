@@ -1,7 +1,7 @@
 -- Laws of a valid store for the code that drops terms: one step to the right, and the stops.
 use Rattle.std.specs.Prelude.{◌≡◌, List, ◌⊎◌, length, ℕ, suc, ◌+◌, ◌-◌, ◌<◌, ◌≤◌}
 use Rattle.std.proofs.Math.Path.{refl}
-use Rattle.std.proofs.Common.{ap, sym, ◌∙◌, inl, inr, arith}
+use Rattle.std.proofs.Common.{ap, sym, subst, ◌∙◌, inl, inr, arith}
 use Rattle.std.proofs.Math.Decide.{dec_lt}
 use Rattle.term_spec.specs.Term.{limit}
 use Rattle.term_spec.specs.Words.{record_at}
@@ -87,6 +87,10 @@ stop_on ns node count i k (Under x j m r) h e s = record { plan = s.plan ∙ e; 
 -- ---- a stop by its variant ----
 
 module _ (ns : List Node) (i k : ℕ) where
+  -- A stop that was found to be t.
+  pub stop_as : {s t : Stop} → s ≡ t → Stopped ns i k s → Stopped ns i k t
+  stop_as e s = subst (Stopped ns i k) e s
+
   -- The nodes that it makes.
   pub makes_stay : {x : ℕ} → Stopped ns i k (Stay x) → drop_makes (drop_plan ns i k) ≡ 0
   unfolding drop_makes

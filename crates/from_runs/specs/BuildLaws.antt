@@ -19,7 +19,7 @@ use Rattle.view_spec.proofs.PlanLaws.{if_yes, if_no}
 use Rattle.nodes.specs.NodeStore.{nodes_in}
 use Rattle.nodes.specs.MakeLaws.{any}
 use Rattle.from_runs.specs.FromRuns.{head_at, closed, closed_at, Closes, Chains, fused_in}
-use Rattle.from_runs.specs.FuseLaws.{left, left_end, left-all, left_skip, left_onto, Starts, others, onto_fuse, onto_part, left_shorter}
+use Rattle.from_runs.specs.FuseLaws.{left, left_end, left-all, left_skip, left_onto, Starts, others, onto_next, onto_part, left_shorter}
 use Rattle.nodes.specs.WriteLaws.{put-length, put-upto, put_above, later, is_write}
 
 -- ---- the last node made, and the used count after the Cons ----
@@ -49,6 +49,11 @@ chain_head_lem (q ∷ qs) ns used at e h =
 pub close_none : (v : List ℕ) (used at : ℕ) {held : Option CodeRun} → held ≡ None → (at ≡ closed_at at held) × (v ≡ closed v used at held)
 unfolding closed_at closed
 close_none v used at e = rw e (refl, refl)
+
+pub close_one : (v : List ℕ) (used at : ℕ) (r : CodeRun) {held : Option CodeRun} → held ≡ Some r
+    → (at + 1 ≡ closed_at at held) × (write node_layout v at (cons_node (nodes_in v at) r.start r.len (head_at used at) ∷ []) ≡ closed v used at held)
+unfolding closed_at closed
+close_one v used at r h = rw h (refl, refl)
 
 pub close_room : (v : List ℕ) (at : ℕ) (r : CodeRun) {held : Option CodeRun} → held ≡ Some r → Lies node_layout v (closed_at at held) → Lies node_layout v (at + 1)
 unfolding closed_at
@@ -218,6 +223,9 @@ module _ (w : List ℕ) (used : ℕ) (runs : List ℕ) (o : Chains w used runs) 
       pub closed_low : used ≤ z
       closed_low = omega (arith, all_held.count)
 
+      pub closed_size : length u ≡ length w
+      closed_size = all_held.size
+
       pub going_end : k ≤ 0 → {x : ℕ} → x ≡ head_at used z
           → (x ≡ chain_head (fused_in runs) (chain (fused_in runs) ns)) × (u ≡ write node_layout w used (drop used (chain (fused_in runs) ns)))
       going_end h {x} e =
@@ -251,7 +259,7 @@ module _ (w : List ℕ) (used : ℕ) (runs : List ℕ) (o : Chains w used runs) 
           go (q ∷ ps) (t, h, same) holds s =
               let run : t ≡ n = cc in
               let as_n : q ≡ as_run n = same ∙ ap as_run run in
-              let o = s ∙ onto_fuse (as_run r) n q ps (ap (λ (x : Run). x.start) as_n) ends in
+              let o = s ∙ onto_next (as_run r) n q ps (ap (λ (x : Run). x.start) as_n) ends in
               let f : left runs (k - 1) ≡ as_run (fused r n) ∷ ps = o ∙ ap (λ (x : Run). record { start = r.start; len = r.len + x.len } ∷ ps) as_n in
               record {
                 within = omega (arith, g.within);

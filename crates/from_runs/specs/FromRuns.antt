@@ -1,5 +1,6 @@
 -- What the functions of this crate ask and answer: a step, and the Cons of the run that is held.
 use Rattle.std.specs.Prelude.{◌≡◌, List, [], ◌∷◌, Option, None, Some, T, length, ℕ, ◌+◌, ◌-◌, ◌^◌, ◌≤◌, ◌<◌}
+use Rattle.std.proofs.Common.{subst}
 use Rattle.std.proofs.Math.Decide.{ℕ_discrete}
 use Rattle.term_spec.specs.Words.{Lies, records, write}
 use Rattle.term_spec.specs.Term.{Run as SpecRun, run_layout, runs_rule, limit}
@@ -15,6 +16,10 @@ abbrev pub Stepped : SpecRun → Option Run → Step → Type 0
 Stepped r next Skip = r.len ≡ 0
 Stepped r next (Fuse q) = (1 ≤ r.len) × (next ≡ Some q) × (r.start + r.len ≡ q.start)
 Stepped r next Part = (1 ≤ r.len) × ((q : Run) → next ≡ Some q → r.start + r.len ≡ q.start → ⊥)
+
+-- A step that was found to be t.
+pub stepped_as : (r : SpecRun) (next : Option Run) {s t : Step} → s ≡ t → Stepped r next s → Stepped r next t
+stepped_as r next e s = subst (Stepped r next) e s
 
 -- The last node made from `used` on, `at` being free; 0 if none is made.
 unfoldable pub head_at : ℕ → ℕ → ℕ

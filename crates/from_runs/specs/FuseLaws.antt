@@ -52,21 +52,40 @@ unfoldable pub Starts : List Run → Option CodeRun → Type 0
 Starts [] next = next ≡ None
 Starts (q ∷ qs) next = (r : CodeRun) × (next ≡ Some r) × (q.start ≡ r.start)
 
+-- The length of the first run; 0 if there is none.
+unfoldable pub first_len : List Run → ℕ
+first_len [] = 0
+first_len (q ∷ qs) = q.len
+
 -- The runs after the first.
 unfoldable pub others : List Run → List Run
 others [] = []
 others (q ∷ qs) = qs
 
+pub others-length : (qs : List Run) {next : Option CodeRun} (s : CodeRun) → Starts qs next → next ≡ Some s → suc (length (others qs)) ≡ length qs
+unfolding Starts others
+others-length [] s h e = absurd (cc)
+others-length (q ∷ qs) s h e = refl
+
 module _ (r : Run) (s : CodeRun) where
   -- it is fused where it ends where the next one starts
-  pub onto_fuse : (q : Run) (qs : List Run) → q.start ≡ s.start → r.start + r.len ≡ s.start
+  pub onto_next : (q : Run) (qs : List Run) → q.start ≡ s.start → r.start + r.len ≡ s.start
       → fuse_onto r (q ∷ qs) ≡ record { start = r.start; len = r.len + q.len } ∷ qs
   unfolding fuse_onto fuse_head
-  onto_fuse q qs h e = go (ℕ_discrete (r.start + r.len) q.start)
+  onto_next q qs h e = go (ℕ_discrete (r.start + r.len) q.start)
     where
       go : (d : Dec (r.start + r.len ≡ q.start)) → fuse_head d r q qs ≡ record { start = r.start; len = r.len + q.len } ∷ qs
       go (yes x) = refl
       go (no x) = absurd (x (e ∙ sym h))
+
+  -- and so where the first of those left starts there
+  pub onto_fuse : {next : Option CodeRun} (qs : List Run) → Starts qs next → next ≡ Some s → r.start + r.len ≡ s.start
+      → fuse_onto r qs ≡ record { start = r.start; len = r.len + first_len qs } ∷ others qs
+  unfolding Starts first_len others
+  onto_fuse [] h p e = absurd (cc)
+  onto_fuse (q ∷ qs) (t, f, same) p e =
+      let run : t ≡ s = cc in
+      onto_next q qs (same ∙ ap (λ (c : CodeRun). c.start) run) e
 
 module _ (r : Run) {next : Option CodeRun} where
   -- and stands by itself elsewhere
@@ -87,7 +106,7 @@ module _ (r : Run) {next : Option CodeRun} where
   onto_starts (q ∷ qs) s (t, f, same) e z =
       let run : t ≡ s = cc in
       let is : t.start ≡ s.start = ap (λ (c : CodeRun). c.start) run in
-      let o = onto_fuse r s q qs (same ∙ is) z in
+      let o = onto_next r s q qs (same ∙ is) z in
       rw o (refl, λ c k. (c, refl, k))
 
 -- ---- how many they are ----

@@ -1,7 +1,7 @@
 -- Laws of a list of runs for the code that reads it from the first to the last: what is left from run i on comes to the same as the whole.
 use Rattle.std.specs.Prelude.{◌≡◌, List, [], ◌∷◌, Bool, true, false, get_or, suc, zero, ◌&&◌, T, leb, length, drop, ℕ, ◌+◌, ◌*◌, ◌/◌, ◌%◌, ◌≤◌, ◌<◌}
 use Rattle.std.proofs.Math.Path.{refl, sym}
-use borrow.Author.Tests.{eq-eqb, ne_eqb}
+use borrow.Author.Tests.{le-leb, lt-leb, eq-eqb, ne_eqb}
 use Rattle.std.proofs.Common.{ap, ◌∙◌, arith}
 use Rattle.std.proofs.lemmas.List.Sums.{sum_by-cons}
 use Rattle.std.specs.Bool.{MatchBool}
@@ -43,6 +43,20 @@ module _ (w : List ℕ) where
   -- ---- every run inside ----
 
   module _ (terms : ℕ) where
+    -- what is left of the rule at run i: true at the end, false at a run that ends later, and the rule of the others at one that does not
+    pub inside-all : (i : ℕ) → i ≡ length w / run_layout.width → runs_rule terms (drop i (records run_layout w)) ≡ runs_rule terms (records run_layout w) → true ≡ runs_rule terms (records run_layout w)
+    unfolding runs_rule
+    inside-all i e h = rw (e, runs_done) at h
+
+    module _ (i : ℕ) {r : Run} (lt : i < length w / run_layout.width) (e : r ≡ record_at run_layout w i) (h : runs_rule terms (drop i (records run_layout w)) ≡ runs_rule terms (records run_layout w)) where
+      pub inside_not : terms < r.start + r.len → false ≡ runs_rule terms (records run_layout w)
+      unfolding runs_rule run_rule
+      inside_not k = rw (runs_next i lt e, lt-leb (r.start + r.len) terms k) at h
+
+      pub inside_next : r.start + r.len ≤ terms → runs_rule terms (drop (i + 1) (records run_layout w)) ≡ runs_rule terms (records run_layout w)
+      unfolding runs_rule run_rule
+      inside_next k = rw (runs_next i lt e, le-leb (r.start + r.len) terms k) at h
+
     -- What a run's rule decides, one by one.
     abbrev pub Ends : Bool → ℕ → Type 0
     Ends b k = run_rule terms (record_at run_layout w k) ≡ b
@@ -79,6 +93,23 @@ module _ (w : List ℕ) where
         sym (one_past k 0 k (omega arith) l (rw e at (h 0)))
 
   -- ---- their terms together ----
+
+  -- the terms before run i and those of the runs from it on come to the total
+  pub total-all : (i : ℕ) {sum : ℕ} → i ≡ length w / run_layout.width → sum + total (drop i (records run_layout w)) ≡ total (records run_layout w) → sum ≡ total (records run_layout w)
+  unfolding total
+  total-all i e h = omega (arith, rw (e, runs_done) at h)
+
+  pub total-start : 0 + total (drop 0 (records run_layout w)) ≡ total (records run_layout w)
+  total-start = omega arith
+
+  pub total_next : {i : ℕ} (sum : ℕ) {r : Run} → i < length w / run_layout.width → r ≡ record_at run_layout w i → sum + total (drop i (records run_layout w)) ≡ total (records run_layout w)
+      → sum + r.len + total (drop (i + 1) (records run_layout w)) ≡ total (records run_layout w)
+  unfolding total
+  total_next {i} sum lt e h = omega (arith, rw (runs_next i lt e) at h)
+
+  pub total_here : {i : ℕ} (sum : ℕ) {r : Run} → i < length w / run_layout.width → r ≡ record_at run_layout w i → sum + total (drop i (records run_layout w)) ≡ total (records run_layout w)
+      → sum + r.len ≤ total (records run_layout w)
+  total_here sum lt e h = omega (arith, total_next sum lt e h)
 
   -- the length of run i
   abbrev pub length_of : ℕ → ℕ

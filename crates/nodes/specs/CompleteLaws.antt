@@ -148,6 +148,22 @@ pub record Up (w : List ℕ) (end y : ℕ) (z : List Node) (v : List ℕ) (k x :
   pub nodes : completed v k end x ≡ z
   pub node : last_made k end x ≡ y
 
+pub up_start : (w : List ℕ) (from end before : ℕ) → Completes w from end before
+    → Up w end (last_made from end before) (completed w from end before) w from before
+up_start w from end before c = record {
+  terms = c.terms;
+  few_terms = c.few_terms;
+  some = c.some;
+  le = c.le;
+  few = c.few;
+  room = c.room;
+  good = c.good;
+  size = refl;
+  after = refl;
+  nodes = refl;
+  node = refl;
+}
+
 module _ {w : List ℕ} {end y : ℕ} {z : List Node} {v : List ℕ} {k x : ℕ} (u : Up w end y z v k x) where
   pub up_end : end ≤ k → (x ≡ y) × Became w v end z
   unfolding wrap

@@ -81,7 +81,18 @@ module _ (w : List ℕ) (terms used : ℕ) (s : NodeStore w terms used) where
   -- ---- unclamp ----
 
   module _ (i len : ℕ) {n : Node} (h : i < used) (e : n ≡ record_at node_layout w i) where
-    -- no Concat, or one whose left is too short
+    -- no Concat
+    pub unclamp_here : (n.kind ≡ concat_kind → ⊥) → unclamp (nodes_in w used) i len ≡ i
+    unclamp_here k = unclamp_leaf (nodes_in w used) i len (inside i h) (leaf_at terms (nodes_in w used) s.good i (inside i h) (rw (below_at w used i e h) at k))
+
+    -- a Concat whose left is too short
+    pub unclamp-short : n.kind ≡ concat_kind → n.b < len → unclamp (nodes_in w used) i len ≡ i
+    unclamp-short k b =
+        let q = below_at w used i e h in
+        unclamp-concat (nodes_in w used) i len (inside i h) (concat-at terms (nodes_in w used) s.good i (inside i h) (rw q at k))
+        ∙ if_no (dec_le len (left_len (nodes_in w used) i)) _ _ (λ z. omega (arith, rw q at b))
+
+    -- no Concat, or one whose left is too short: neither goes on
     pub unclamp_stop : (n.kind ≡ concat_kind → n.b < len) → unclamp (nodes_in w used) i len ≡ i
     unclamp_stop short = go (ℕ_discrete n.kind concat_kind)
       where

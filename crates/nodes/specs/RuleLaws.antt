@@ -1,8 +1,8 @@
 -- Laws of a store's rules for the code that decides them: a rule that cannot hold is false, and one whose other parts hold is its last test.
-use Rattle.std.specs.Prelude.{◌≡◌, List, ◌∷◌, Bool, true, false, ◌&&◌, leb, ltb, eqb, get_or}
+use Rattle.std.specs.Prelude.{◌≡◌, List, ◌∷◌, Bool, true, false, ◌&&◌, T, leb, ltb, eqb, get_or}
 use Rattle.std.proofs.Math.Path.{refl, ap, sym}
-use Rattle.std.proofs.Common.{◌∙◌, add-one}
-use borrow.Author.Tests.{lt-ltb, le-leb, lt-leb}
+use Rattle.std.proofs.Common.{◌∙◌, inl, inr, add-one}
+use borrow.Author.Tests.{lt-ltb, le-leb, lt-leb, eq-eqb}
 use Rattle.std.proofs.Math.ListN.{length, drop}
 use Rattle.std.proofs.Math.Seq.{drop-cons, drop-length}
 use Prim.Native.Nat.{ℕ, suc, zero, ◌+◌, ◌<◌, ◌≤◌, min, max}
@@ -11,15 +11,72 @@ use Rattle.term_spec.specs.Term.{limit}
 use Rattle.term_spec.specs.Words.{decode, record_at}
 use Rattle.term_spec.proofs.WordsLaws.{decode-at, decode-length, decode-snoc}
 use Rattle.view_spec.specs.Node.{Node, nil_node, node_layout, node_at, nil_rule, cons_rule, concat_rule, node_rule_k, node_rule, each_node, nodes_rule, field_rule}
+use Rattle.view_spec.proofs.NodeLaws.{NilFacts, ConsFacts, ConcatFacts, NodeFacts, node_facts}
 use Rattle.std.proofs.lemmas.Bool.Decides.{nat_tests}
 use Rattle.std.specs.Bool.{MatchBool}
 use Rattle.std.specs.List.{range_with_len, AllWithin, HoldsAt}
 use Rattle.std.proofs.lemmas.List.FromFn.{length-range_with_len, get_or-range_with_len}
 use Rattle.nodes.specs.NodeStore.{nodes_in}
 
+-- A test that cannot hold.
+refused : (b : Bool) → (T b → ⊥) → false ≡ b
+refused true n = absurd (n tt)
+refused false n = refl
+
 -- Node j of those below i, read from the words.
 pub below_at : (w : List ℕ) (i j : ℕ) {n : Node} → n ≡ record_at node_layout w j → j < i → n ≡ node_at (nodes_in w i) j
 below_at w i j e h = e ∙ sym (decode-at node_layout i j w nil_node h)
+
+-- ---- a node by its kind. The rule of one kind does not look at the kind: it is that of the node with the kind put in. ----
+
+-- The node with kind k.
+abbrev kinded : ℕ → Node → Node
+kinded k n = record { kind = k; a = n.a; b = n.b; c = n.c; height = n.height; reach = n.reach }
+
+module _ (below : List Node) (n : Node) where
+  pub nil_refused : (NilFacts (length below) (kinded 0 n) → ⊥) → false ≡ nil_rule below n
+  unfolding nil_rule node_rule node_rule_k
+  nil_refused never = refused _ (λ t. go (node_facts 0 below (kinded 0 n) t))
+    where
+      go : NodeFacts 0 below (length below) (kinded 0 n) → ⊥
+      go (inl f) = never f
+      go (inr (inl f)) = omega arith
+      go (inr (inr f)) = omega arith
+
+  pub nil_last : length below ≡ 0 → n.a ≡ 0 → n.b ≡ 0 → n.c ≡ 0 → n.height ≡ 0 → eqb n.reach 0 ≡ nil_rule below n
+  unfolding nil_rule
+  nil_last l p q r s = simp (eq-eqb _ _ l, eq-eqb _ _ p, eq-eqb _ _ q, eq-eqb _ _ r, eq-eqb _ _ s)
+
+module _ (w : List ℕ) (i : ℕ) (n : Node) where
+  pub cons-refused : (used : ℕ) → (ConsFacts used (nodes_in w i) i (kinded 1 n) → ⊥) → false ≡ cons_rule used (nodes_in w i) n
+  unfolding cons_rule node_rule node_rule_k
+  cons-refused used never = refused _ (λ t. go (rw decode-length at (node_facts used (nodes_in w i) (kinded 1 n) t)))
+    where
+      go : NodeFacts used (nodes_in w i) i (kinded 1 n) → ⊥
+      go (inl f) = omega arith
+      go (inr (inl f)) = never f
+      go (inr (inr f)) = omega arith
+
+  pub cons-last : (used : ℕ) {t : Node} {b : Bool} → 1 ≤ n.b → n.a + n.b ≤ used → n.c < i → t ≡ node_at (nodes_in w i) n.c → t.kind ≤ 1 → n.height ≡ 1
+      → b ≡ eqb n.reach (min limit (n.b + t.reach)) → b ≡ cons_rule used (nodes_in w i) n
+  unfolding cons_rule
+  cons-last used p q r e k h z = rw (decode-length, ← e, le-leb _ _ p, le-leb _ _ q, lt-ltb _ _ r, le-leb _ _ k, eq-eqb _ _ h) z
+
+  pub concat-refused : (ConcatFacts (nodes_in w i) i (kinded 2 n) → ⊥) → false ≡ concat_rule (nodes_in w i) n
+  unfolding concat_rule node_rule node_rule_k
+  concat-refused never = refused _ (λ t. go (rw decode-length at (node_facts 0 (nodes_in w i) (kinded 2 n) t)))
+    where
+      go : NodeFacts 0 (nodes_in w i) i (kinded 2 n) → ⊥
+      go (inl f) = omega arith
+      go (inr (inl f)) = omega arith
+      go (inr (inr f)) = never f
+
+  pub concat-last : {l r : Node} {b : Bool} → n.a < i → n.c < i → l ≡ node_at (nodes_in w i) n.a → r ≡ node_at (nodes_in w i) n.c → 1 ≤ l.kind → 1 ≤ r.kind
+      → 1 ≤ n.b → n.b ≤ l.reach → n.height ≡ suc (max l.height r.height) → b ≡ eqb n.reach (min limit (n.b + r.reach))
+      → b ≡ concat_rule (nodes_in w i) n
+  unfolding concat_rule
+  concat-last p q d e k m s t h z =
+      rw (decode-length, ← d, ← e, lt-ltb _ _ p, lt-ltb _ _ q, le-leb _ _ k, le-leb _ _ m, le-leb _ _ s, le-leb _ _ t, eq-eqb _ _ h) z
 
 -- ---- a node's rule, where the nodes that it names are read from the words ----
 
@@ -46,10 +103,14 @@ module _ (w : List ℕ) (i : ℕ) (n : Node) where
   concat_refused never = rw decode-length (grind (arith, nat_tests))
 
 module _ (used : ℕ) (below : List Node) (n : Node) where
-  pub node_nil : n.kind ≡ 0 → length below ≡ 0
+  pub node_nil : n.kind ≡ 0 → nil_rule below n ≡ node_rule used below n
+  unfolding node_rule node_rule_k
+  node_nil e = rw e refl
+
+  pub node_nil_low : n.kind ≡ 0 → length below ≡ 0
       → eqb n.kind 0 && (eqb n.a 0 && (eqb n.b 0 && (eqb n.c 0 && (eqb n.height 0 && eqb n.reach 0)))) ≡ node_rule used below n
   unfolding node_rule node_rule_k nil_rule
-  node_nil e l = rw e (grind (arith, nat_tests))
+  node_nil_low e l = rw e (grind (arith, nat_tests))
 
   pub node_nil_high : n.kind ≡ 0 → (length below ≡ 0 → ⊥) → false ≡ node_rule used below n
   unfolding node_rule node_rule_k nil_rule

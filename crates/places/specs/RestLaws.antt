@@ -57,14 +57,25 @@ pub passed_within : (r : Rest) (k : ℕ) (again : Rest) → k < r.left → rest 
 unfolding passed
 passed_within r k again h = sym (if_yes (dec_lt k r.left) _ _ h)
 
-pub passed-last : (r : Rest) (k : ℕ) (again : Rest) → r.left ≤ k → r.later ≡ [] → again ≡ passed r k again
+pub passed_alone : (r : Rest) (k : ℕ) (again : Rest) → r.left ≤ k → r.later ≡ [] → again ≡ passed r k again
 unfolding passed popped
-passed-last r k again h e = sym (if_no (dec_lt k r.left) _ _ (λ z. omega arith) ∙ ap (λ fs. popped fs again) e)
+passed_alone r k again h e = sym (if_no (dec_lt k r.left) _ _ (λ z. omega arith) ∙ ap (λ fs. popped fs again) e)
 
-pub passed_next : (r : Rest) (k : ℕ) (again : Rest) → r.left ≤ k → {x y : ℕ} {later : List Field} → r.later ≡ field x y ∷ later
+pub passed_later : (r : Rest) (k : ℕ) (again : Rest) → r.left ≤ k → {x y : ℕ} {later : List Field} → r.later ≡ field x y ∷ later
     → rest x 0 y later ≡ passed r k again
 unfolding passed popped
-passed_next r k again h e = sym (if_no (dec_lt k r.left) _ _ (λ z. omega arith) ∙ ap (λ fs. popped fs again) e)
+passed_later r k again h e = sym (if_no (dec_lt k r.left) _ _ (λ z. omega arith) ∙ ap (λ fs. popped fs again) e)
+
+-- the piece is `left` terms of node j after its first s, and d fields wait
+module _ (w : List ℕ) (j s left d k : ℕ) (h : left ≤ k) where
+  pub passed-last : (i n m : ℕ) → d ≡ 0 → rest i n m (waiting w 0) ≡ passed (rest j s left (waiting w d)) k (rest i n m [])
+  unfolding passed popped waiting
+  passed-last i n m e = sym (if_no (dec_lt k left) _ _ (λ z. omega arith) ∙ ap (λ q. popped (waiting w q) (rest i n m [])) e)
+
+  pub passed_next : (again : Rest) {x y : ℕ} → (d ≡ 0 → ⊥) → x ≡ get_or w ((d - 1) * 2) 0 → y ≡ get_or w ((d - 1) * 2 + 1) 0
+      → rest x 0 y (waiting w (d - 1)) ≡ passed (rest j s left (waiting w d)) k again
+  unfolding passed popped
+  passed_next again z e q = sym (if_no (dec_lt k left) _ _ (λ z. omega arith) ∙ ap (λ fs. popped fs again) (last_waits w d z e q))
 
 -- ---- a piece that is taken into the left of its node n ----
 

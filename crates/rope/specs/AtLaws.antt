@@ -114,6 +114,17 @@ put_place T used base kept {before} {after = after} so_far few room h p lt =
 
 -- ---- the terms of a node are those at its places ----
 
+-- What is written after the used terms leaves them as they were.
+used_kept : (before : List ℕ) (used i : ℕ) (ts : List Term) {after : List ℕ} → used ≤ i → Lies term_layout before i → Lies term_layout after used
+    → after ≡ write term_layout before i ts
+    → terms_in after used ≡ terms_in before used
+used_kept before used i ts {after} h low fits e =
+    let width = term_layout.width in
+    let same : take (used * width) after ≡ take (used * width) before =
+    sym (take-take (used * width) (i * width) after (omega arith)) ∙ ap (λ w. take (used * width) (take (i * width) w)) e
+    ∙ ap (take (used * width)) (write-below before i ts low) ∙ take-take (used * width) (i * width) before (omega arith) in
+    sym (decode-take term_layout used after fits) ∙ ap (decode term_layout used) same ∙ decode-take term_layout used before (omega arith)
+
 -- The used terms are those at all places.
 decode-places : (w : List ℕ) (s n : ℕ) → decode term_layout n (drop (s * term_layout.width) w) ≡ terms_at w (numbers_from s n)
 unfolding decode record_at
@@ -143,6 +154,16 @@ module _ {terms : List ℕ} {used : ℕ} {nodes : List ℕ} {nodes-used node len
   shown-at source same =
       ap (λ ts. meaning ts (nodes_in nodes nodes-used) node) (sym same ∙ decode-places source 0 used)
       ∙ meaning-map (record_at term_layout source) (numbers_from 0 used) (nodes_in nodes nodes-used) (rw up_length task.good) node low
+
+  -- where some of them are copied after the used terms, these are as they were
+  pub some_kept : {middle : List ℕ} (done : ℕ) → done ≤ len → used ≤ base
+      → middle ≡ write term_layout before base (take done (shown terms used nodes nodes-used node))
+      → terms_in middle used ≡ terms_in before used
+  some_kept done h low x =
+      let M = shown terms used nodes nodes-used node in
+      let l = length-take-le done M (omega (arith, shown_long)) in
+      let z = ap length x ∙ write-length term_layout term_lays before base (take done M) (omega (arith, task.room)) in
+      used_kept before used base (take done M) low (omega (arith, task.room)) (omega (arith, task.room)) x
 
   -- the rest, after some of them are there
   pub copied_rest : {middle after : List ℕ} (done : ℕ) → done ≤ len → (to : ℕ) → to ≡ base + done
@@ -206,6 +227,12 @@ module _ {terms : List ℕ} {used : ℕ} {nodes : List ℕ} {nodes-used node len
     filled-all h =
         let e : done ≡ len = omega (arith, so_far.most) in
         so_far.words ∙ ap (λ n. write term_layout before (base + from) (drop from (take n (shown terms used nodes nodes-used node)))) e
+
+    -- the used terms are as they were, where they are copied after themselves
+    pub filled-kept : used ≤ base → terms_in after used ≡ terms_in before used
+    filled-kept h =
+        used_kept before used (base + from) (drop from (take done (shown terms used nodes nodes-used node))) (omega arith)
+        (omega (arith, so_far.least, so_far.most, so_far.task.room)) (omega (arith, filled-length, so_far.task.room)) so_far.words
 
     -- one part more, read from a slice that begins with the used terms
     pub filled_next : (k : ℕ) (h : done + k ≤ len) (old list : List ℕ) → PartRead nodes node done k old list

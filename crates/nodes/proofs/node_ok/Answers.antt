@@ -4,12 +4,12 @@ use Rattle.std.proofs.lemmas.Bool.Decides.{nat_tests}
 use Rattle.term_spec.proofs.WordsLaws.{decode-length}
 use Rattle.view_spec.specs.Node.{node_layout, node_rule}
 use Rattle.nodes.specs.NodeStore.{nodes_in}
-use Rattle.nodes.specs.RuleLaws.{node_nil, node_nil_high, node-cons, node-concat, node_none}
+use Rattle.nodes.specs.RuleLaws.{node_nil_low, node_nil_high, node-cons, node-concat, node_none}
 use Rattle.nodes.proofs.node_ok.Goals as goal
 
 pub returns-then-i-eq0 : goal.returns-then-i-eq0
 returns-then-i-eq0 c =
-    c.eq.ensures ∙ node_nil c.args.terms (nodes_in c.args.nodes.now c.args.i) _ c.in-0.is (decode-length node_layout _ _ ∙ c.if-i-eq0.true)
+    c.eq.ensures ∙ node_nil_low c.args.terms (nodes_in c.args.nodes.now c.args.i) _ c.in-0.is (decode-length node_layout _ _ ∙ c.if-i-eq0.true)
     ∙ ap (node_rule _ _) c.get-n.ensures
 
 pub returns-else-i-eq0 : goal.returns-else-i-eq0
