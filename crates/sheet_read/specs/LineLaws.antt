@@ -7,7 +7,7 @@ use Rattle.std.proofs.Math.Bool.{Bool}
 use Rattle.std.specs.Bool.{MatchBool}
 use Rattle.std.specs.List.{AllWithin, HoldsAt, range_with_len}
 use Rattle.std.proofs.lemmas.List.FromFn.{length-range_with_len, get_or-range_with_len}
-use Prim.Native.Nat.{ℕ, suc, zero, ◌+◌, ◌*◌, ◌<◌, ◌≤◌}
+use Prim.Native.Nat.{ℕ, suc, zero, ◌+◌, ◌-◌, ◌*◌, ◌<◌, ◌≤◌}
 use native.Mathlib.Omega.{arith}
 use Rattle.term_spec.proofs.BoolLaws.{both_of, T_true}
 use Rattle.sheet_spec.specs.Sheet.{column_width, number_at, beyond, numbers_ok, zeros_ok, line_width, spec_line_ok, spec_lines_ok, numbers_at, words_at}
