@@ -13,6 +13,7 @@ use Rattle.term_spec.proofs.BoolLaws.{both_of, T_true}
 use Rattle.sheet_spec.specs.Sheet.{column_width, number_at, beyond, numbers_ok, zeros_ok, line_width, spec_line_ok, spec_lines_ok, numbers_at, words_at}
 use Rattle.sheet_spec.proofs.LineLaws.{numbers_length, words_length}
 use Rattle.sheet_spec.specs.Job.{laid, laid_at}
+use Rattle.sheet_form.specs.FormLaws.{part_at}
 use Rattle.sheet_read.specs.Read.{spec_numbers_below}
 use Rattle.sheet_spec.proofs.LaidLaws.{laid_at-length, laid_at_none, laid_at-start, laid_at_next, laid_at-snoc, laid-length}
 
