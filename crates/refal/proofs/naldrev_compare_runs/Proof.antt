@@ -5,7 +5,7 @@ use Rattle.refal.proofs.naldrev_compare_runs.Statement.{statement}
 use Rattle.refal.proofs.naldrev_compare_runs.Tie as tie
 
 returns : tie.Need-returns
-returns c = compared-left _ _ c.compare_runs-compared.ensures c.put_truth.ensures.runs
+returns c = compared-left _ _ c.compare_runs-compared.ensures c.put_truth.ensures.1
 
 pub naldrev_compare_runs_spec : {M : Type 1} → statement M
 naldrev_compare_runs_spec =

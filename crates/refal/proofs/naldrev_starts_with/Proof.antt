@@ -5,7 +5,7 @@ use Rattle.refal.proofs.naldrev_starts_with.Statement.{statement}
 use Rattle.refal.proofs.naldrev_starts_with.Tie as tie
 
 returns : tie.Need-returns
-returns c = truth_left _ _ c.starts_with-starts.ensures c.put_truth.ensures.fields
+returns c = truth_left _ _ c.starts_with-starts.ensures c.put_truth.ensures.0
 
 pub naldrev_starts_with_spec : {M : Type 1} → statement M
 naldrev_starts_with_spec = tie.close (tie.spec (λ c κs. search rules) (λ c κs. search rules) returns)
