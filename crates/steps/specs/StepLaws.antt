@@ -50,23 +50,40 @@ pub split_as : (s : State) (lv bd : List ℕ) → turn_of (Split s) lv bd ≡ tu
 unfolding turn_of turn_as
 split_as s lv bd = refl
 
-pub went : (s : State) (lv bd : List ℕ) {ls env : List Run}
+pub went_next : (s : State) (lv bd : List ℕ) {ls env : List Run}
     → levels_of (spec_place_of s lv bd) ≡ ls → entries_of (spec_place_of s lv bd) ≡ env → turn_of (Next s) lv bd ≡ next ls env
 unfolding turn_of
-went s lv bd p q = ap₂ next p q
+went_next s lv bd p q = ap₂ next p q
 
 -- k terms are passed, or given to the next entry.
 module _ (s g : State) (lv : List ℕ) (k : ℕ) where
-  pub passed : (bd : List ℕ) → g ≡ record { start = s.start + k; len = s.len - k; depth = s.depth; bound = s.bound }
+  pub passed_next : (bd : List ℕ) → g ≡ record { start = s.start + k; len = s.len - k; depth = s.depth; bound = s.bound }
       → turn_of (Next g) lv bd ≡ next (back_of k (record { start = s.start; len = s.len }) ∷ stack_of s.depth lv) (entries_in s.bound bd)
-  passed bd p = went g lv bd (ap (λ z. levels_of (spec_place_of z lv bd)) p) (ap (λ z. entries_of (spec_place_of z lv bd)) p)
+  passed_next bd p = went_next g lv bd (ap (λ z. levels_of (spec_place_of z lv bd)) p) (ap (λ z. entries_of (spec_place_of z lv bd)) p)
 
-  pub gave : (bd after : List ℕ) → g ≡ record { start = s.start + k; len = s.len - k; depth = s.depth; bound = s.bound + 1 }
+  pub gave_next : (bd after : List ℕ) → g ≡ record { start = s.start + k; len = s.len - k; depth = s.depth; bound = s.bound + 1 }
       → entries_in (s.bound + 1) after ≡ entries_in s.bound bd ++ (record { start = s.start; len = k } ∷ [])
       → turn_of (Next g) lv after
       ≡ next (back_of k (record { start = s.start; len = s.len }) ∷ stack_of s.depth lv)
       (entries_in s.bound bd ++ (record { start = s.start; len = k } ∷ []))
-  gave bd after p q = went g lv after (ap (λ z. levels_of (spec_place_of z lv after)) p) (ap (λ z. entries_of (spec_place_of z lv after)) p ∙ q)
+  gave_next bd after p q = went_next g lv after (ap (λ z. levels_of (spec_place_of z lv after)) p) (ap (λ z. entries_of (spec_place_of z lv after)) p ∙ q)
+
+-- The same for a turn that is told to go on.
+pub went : (m : Turned) (s : State) (lv bd : List ℕ) {ls env : List Run} → m ≡ Next s
+    → levels_of (spec_place_of s lv bd) ≡ ls → entries_of (spec_place_of s lv bd) ≡ env → turn_of m lv bd ≡ next ls env
+went m s lv bd e p q = rw e (went_next s lv bd p q)
+
+module _ (m : Turned) (s g : State) (lv : List ℕ) (k : ℕ) (e : m ≡ Next g) where
+  pub passed : (bd : List ℕ) → g ≡ record { start = s.start + k; len = s.len - k; depth = s.depth; bound = s.bound }
+      → turn_of m lv bd ≡ next (back_of k (record { start = s.start; len = s.len }) ∷ stack_of s.depth lv) (entries_in s.bound bd)
+  passed bd p = rw e (passed_next s g lv k bd p)
+
+  pub gave : (bd after : List ℕ) → g ≡ record { start = s.start + k; len = s.len - k; depth = s.depth; bound = s.bound + 1 }
+      → entries_in (s.bound + 1) after ≡ entries_in s.bound bd ++ (record { start = s.start; len = k } ∷ [])
+      → turn_of m lv after
+      ≡ next (back_of k (record { start = s.start; len = s.len }) ∷ stack_of s.depth lv)
+      (entries_in s.bound bd ++ (record { start = s.start; len = k } ∷ []))
+  gave bd after p q = rw e (gave_next s g lv k bd after p q)
 
 -- ---- entries ----
 
@@ -94,8 +111,12 @@ pub levels-same : (d : ℕ) (m : Turned) (lv : List ℕ) → LevelsKept d m lv l
 levels-same d m lv = record { back = restores-same d lv; same = λ n. refl }
 
 -- A turn that goes on after it wrote level d.
-pub levels_wrote : (d : ℕ) (s : State) (lv after : List ℕ) (a b : ℕ) → after ≡ set (set lv (2 * d) a) (2 * d + 1) b → LevelsKept d (Next s) lv after
-levels_wrote d s lv after a b q = record { back = rw q (restores-two d lv a b); same = λ n. absurd (n s refl) }
+pub wrote_next : (d : ℕ) (s : State) (lv after : List ℕ) (a b : ℕ) → after ≡ set (set lv (2 * d) a) (2 * d + 1) b → LevelsKept d (Next s) lv after
+wrote_next d s lv after a b q = record { back = rw q (restores-two d lv a b); same = λ n. absurd (n s refl) }
+
+pub levels_wrote : (d : ℕ) (m : Turned) (s : State) (lv after : List ℕ) (a b : ℕ) → m ≡ Next s
+    → after ≡ set (set lv (2 * d) a) (2 * d + 1) b → LevelsKept d m lv after
+levels_wrote d m s lv after a b e q = rw e (wrote_next d s lv after a b q)
 
 -- ---- literals ----
 
