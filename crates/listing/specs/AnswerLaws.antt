@@ -1,7 +1,7 @@
 -- Laws of a walk's answer and of the slots, one for each exit.
 use Rattle.std.specs.Prelude.{◌≡◌, List, [], ◌∷◌, length}
 use Rattle.std.proofs.Math.Path.{refl}
-use Prim.Native.Nat.{ℕ, suc, zero, ◌*◌, ◌/◌, ◌<◌, ◌≤◌}
+use Prim.Native.Nat.{ℕ, suc, zero, ◌*◌, ◌/◌}
 use Rattle.std.proofs.Common.{arith}
 use Rattle.match_spec.specs.Answer.{spec_slots_in, number_of}
 use Rattle.calls_spec.specs.Step.{Answer, refused, listed, match_answer}

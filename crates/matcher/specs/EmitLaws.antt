@@ -1,8 +1,8 @@
 -- A candidate goes into the next slot of a listing, or finds no slot left.
-use Rattle.std.specs.Prelude.{◌≡◌, List, [], ◌∷◌, ◌++◌, Bool, true, false, length, take, drop, ℕ, suc, zero, ◌+◌, ◌-◌, ◌*◌, ◌≤◌, ◌<◌}
+use Rattle.std.specs.Prelude.{◌≡◌, List, [], ◌∷◌, ◌++◌, Bool, true, false, length, get_or, set, take, drop, ℕ, suc, zero, ◌+◌, ◌-◌, ◌*◌, ◌≤◌, ◌<◌}
 use Rattle.std.proofs.Math.Path.{refl, ap, sym}
 use Rattle.std.proofs.Common.{ap₂, ◌∙◌, append_assoc, length-drop, length-take-le, take_at, add-one, arith, suc-mul, mul-le-mul_right}
-use Rattle.std.proofs.Math.Seq.{paste}
+use Rattle.std.proofs.Math.Seq.{paste, paste-zero, paste-suc}
 use borrow.Rule.Slice.PartMut.{put_mid}
 use borrow.Author.Rules.{rules}
 use Rattle.std.proofs.lemmas.Slice.{overwrites}
@@ -20,6 +20,29 @@ use Rattle.matcher.specs.declared.Tally.{Tally}
 use Rattle.matcher.specs.declared.Status.{Status}
 use Rattle.matcher.specs.declared.Status.TheVariants.{Going, Done, Full}
 use Rattle.matcher.specs.Ready.{candidates_in, status_of, wanted_of, slot_words, Written}
+
+-- ---- the copy ----
+
+-- i of n words have gone to `base` and after it.
+pub record Pasted (before binds : List ℕ) (base n : ℕ) (after : List ℕ) (i : ℕ) : Type 0 where
+  pub most : i ≤ n
+  pub words : after ≡ paste before base binds i
+
+pub pasted_none : (before binds : List ℕ) (base n : ℕ) → Pasted before binds base n before 0
+pasted_none before binds base n = record { most = omega arith; words = paste-zero before base binds }
+
+module _ {before binds : List ℕ} {base n : ℕ} {after : List ℕ} {i : ℕ} (so_far : Pasted before binds base n after i) (fits : base + n ≤ length before)
+    (long : n ≤ length binds) where
+  pub pasted_length : length after ≡ length before
+  pasted_length = ap length so_far.words ∙ length-paste before base binds i (omega (arith, so_far.most)) (omega (arith, so_far.most))
+
+  -- one word more
+  pub pasted_next : i < n → Pasted before binds base n (set after (base + i) (get_or binds i 0)) (i + 1)
+  pasted_next lt = record {
+    most = omega arith;
+    words = ap (λ w. set w (base + i) (get_or binds i 0)) so_far.words
+        ∙ paste-suc before base binds i 0 (omega arith) (omega arith) ∙ ap (paste before base binds) (sym (add-one i));
+  }
 
 -- ---- the slots as records ----
 
@@ -107,12 +130,12 @@ module _ (g : Goal) (f : Tally) (before : List ℕ) (goes : f.stop ≡ Going) wh
   }
 
   -- the next slot has the words of the entries
-  pub emit_written : (stop : Status) (binds : List ℕ) {after : List ℕ} → g.cap * slot_words g.entries ≤ length before
+  pub emit_copied : (stop : Status) (binds : List ℕ) {after : List ℕ} → g.cap * slot_words g.entries ≤ length before
       → slot_words g.entries ≤ length binds → f.count < g.cap
       → after ≡ paste before (f.count * slot_words g.entries) binds (slot_words g.entries)
       → status_of stop ≡ after_one (wanted_of g.head)
       → Written g (hit (decode run_layout g.entries binds) ∷ []) f (record { stop = stop; count = f.count + 1 }) before after
-  emit_written stop binds room long lt ew es =
+  emit_copied stop binds room long lt ew es =
       let m = g.entries in
       let fits : f.count * (m * 2) + m * 2 ≤ length before = slot_within m f.count g.cap before room lt in
       record {
@@ -125,3 +148,13 @@ module _ (g : Goal) (f : Tally) (before : List ℕ) (goes : f.stop ≡ Going) wh
           rest = ap (drop ((f.count + 1) * (m * 2))) ew ∙ slot-rest m f.count before binds fits long;
         };
       }
+
+  -- the same where the words went one by one
+  pub emit_written : (stop : Status) {binds after : List ℕ} {i : ℕ} → g.cap * slot_words g.entries ≤ length before
+      → slot_words g.entries ≤ length binds → f.count < g.cap
+      → Pasted before binds (f.count * slot_words g.entries) (slot_words g.entries) after i → slot_words g.entries ≤ i
+      → status_of stop ≡ after_one (wanted_of g.head)
+      → Written g (hit (decode run_layout g.entries binds) ∷ []) f (record { stop = stop; count = f.count + 1 }) before after
+  emit_written stop {binds} {after} {i} room long lt so_far ended es =
+      let e : i ≡ slot_words g.entries = omega (arith, so_far.most) in
+      emit_copied stop binds room long lt (so_far.words ∙ ap (paste before (f.count * slot_words g.entries) binds) e) es

@@ -79,9 +79,9 @@ module _ (v : Given) (p : ℕ) (at : Place) where
     next_fits : j ≤ at.len → fits_there v p at at.binds j ≡ true
     next_fits l = fits-same binds j same ∙ h.fits l
 
-splitting_from : (v : Given) (p : ℕ) (g : Goal) (at : Place) (f : Tally) (before : List ℕ) {k : ℕ} → f.stop ≡ Going → f.count ≤ g.cap
+pub splitting_start : (v : Given) (p : ℕ) (g : Goal) (at : Place) (f : Tally) (before : List ℕ) {k : ℕ} → f.stop ≡ Going → f.count ≤ g.cap
     → FirstFit (fits_there v p at at.binds) 0 at.len k → Splitting v p g at f before at.levels at.binds before f k
-splitting_from v p g at f before z c h = record {
+splitting_start v p g at f before z c h = record {
   loop = loop_next v p at at.binds refl (loop_start _ _ _ _ _ z c) h;
   fits = next_fits v p at at.binds refl (loop_start g (split_events v p at) at.len f before z c) h;
   levels-same = refl;
@@ -90,10 +90,10 @@ splitting_from v p g at f before z c h = record {
   slots_length = refl;
 }
 
-pub splitting_start : (v : Given) (p : ℕ) (g : Goal) (at : Place) (f : Tally) (before : List ℕ) (r : Option ℕ) → f.stop ≡ Going → f.count ≤ g.cap
+pub splitting_found : (v : Given) (p : ℕ) (g : Goal) (at : Place) (f : Tally) (before : List ℕ) (r : Option ℕ) → f.stop ≡ Going → f.count ≤ g.cap
     → FirstOf (fits_there v p at at.binds) 0 at.len r → SplittingAt v p g at f before at.levels at.binds before f r
-splitting_start v p g at f before None z c h = splitting_from v p g at f before z c h
-splitting_start v p g at f before (Some k) z c h = (splitting_from v p g at f before z c h.0, h.1)
+splitting_found v p g at f before None z c h = splitting_start v p g at f before z c h
+splitting_found v p g at f before (Some k) z c h = (splitting_start v p g at f before z c h.0, h.1)
 
 -- As many slots are there, and no more are written.
 pub split_slots : {v : Given} {p : ℕ} {g : Goal} {at : Place} {f : Tally} {before levels binds slots : List ℕ} {got : Tally} {k : ℕ}
@@ -209,10 +209,10 @@ module _ {v : Given} {p m : ℕ} {s : Place} {w : Turned} {a : State} {lv bd : L
         }
 
         -- the loop goes on at the next split that fits
-        splitting_more : r.stop ≡ Going → length binds-after ≡ length binds → length after ≡ length slots
+        pub splitting_next : r.stop ≡ Going → length binds-after ≡ length binds → length after ≡ length slots
             → {j : ℕ} → FirstFit (fits_there v p at binds-after) (k + 1) a.len j
             → Splitting v p g at f before levels-after binds-after after r j
-        splitting_more q lb ls x =
+        splitting_next q lb ls x =
             let into = loop_into _ _ _ _ _ o.loop h given_events d.written q in record {
               loop = loop_next v p at binds-after given-kept into x;
               fits = next_fits v p at binds-after given-kept into x;
@@ -222,7 +222,7 @@ module _ {v : Given} {p m : ℕ} {s : Place} {w : Turned} {a : State} {lv bd : L
               slots_length = ls ∙ o.slots_length;
             }
 
-        pub splitting_next : (j : Option ℕ) → r.stop ≡ Going → length binds-after ≡ length binds → length after ≡ length slots
+        pub splitting_on : (j : Option ℕ) → r.stop ≡ Going → length binds-after ≡ length binds → length after ≡ length slots
             → FirstOf (fits_there v p at binds-after) (k + 1) a.len j → SplittingAt v p g at f before levels-after binds-after after r j
-        splitting_next None q lb ls x = splitting_more q lb ls x
-        splitting_next (Some j) q lb ls x = (splitting_more q lb ls x.0, x.1)
+        splitting_on None q lb ls x = splitting_next q lb ls x
+        splitting_on (Some j) q lb ls x = (splitting_next q lb ls x.0, x.1)

@@ -1,8 +1,8 @@
 -- Laws of the walk in code: what a record's turn brings, where the walk may go on, and what each exit leaves.
-use Rattle.std.proofs.Math.Path.{◌≡◌, ap, subst}
+use Rattle.std.proofs.Math.Path.{◌≡◌, ap, ap₂, subst}
 use Rattle.std.specs.Prelude.{refl, List, [], ◌∷◌, Bool, T, get_or, ℕ, suc, zero, ◌+◌, ◌*◌, ◌/◌, ◌<◌, ◌≤◌, max}
 use Rattle.std.proofs.Common.{sym, ◌∙◌, arith}
-use Rattle.std.proofs.Math.ListN.{length}
+use Rattle.std.proofs.Math.ListN.{length, set}
 use Rattle.term_spec.proofs.ListLaws.{All}
 use Rattle.term_spec.specs.Words.{Lies, decode, record_at, write, count}
 use Rattle.term_spec.proofs.WordsLaws.{decode-length}
@@ -94,6 +94,10 @@ module _ {v : Given} {p m : ℕ} {s : Place} (y : Ready v p m s) where
   -- the words of the innermost level's depth are there
   pub depth_room : 2 * s.depth + 2 ≤ length s.levels
   depth_room = omega (arith, ready_stands.depth, y.level-room)
+
+  -- the number of a record that is there
+  pub number_there : p < count item_layout v.pattern → p < length v.numbers
+  number_there h = omega (arith, y.pattern.numbered)
 
   -- at the end of the pattern
   module _ (e : count item_layout v.pattern ≤ p) where
@@ -245,12 +249,25 @@ module _ {v : Given} {p : ℕ} {s : Place} {m : Turned} {lv bd : List ℕ} (k : 
         omega (arith, decode-length run_layout s.bound s.binds, decode-length run_layout a.bound bd)
 
     -- the walk after it is done, and the run of the level is put back
-    pub next_walked : {g : Goal} {f r : Tally} {before after levels binds last : List ℕ} → m ≡ Next a → Lies run_layout lv (s.depth + 1)
+    pub next_restored : {g : Goal} {f r : Tally} {before after levels binds last : List ℕ} → m ≡ Next a → Lies run_layout lv (s.depth + 1)
         → Walked g (events_from v (p + 1) (spec_place_of a lv bd)) f r before after (spec_place_of a lv bd) levels binds
         → last ≡ write run_layout levels s.depth (record_at run_layout s.levels s.depth ∷ []) → Walked g (events_from v p s) f r before after s last binds
-    next_walked e room h q = record {
+    next_restored e room h q = record {
       written = written_same (turn_next e) h.written;
       levels-same = q ∙ ap (λ l. write run_layout l s.depth (record_at run_layout s.levels s.depth ∷ [])) h.levels-same
           ∙ restored s.depth s.levels lv k.back room;
+      entries_same = entries_fewer _ bd s.bound a.bound (next_grows e) h.entries_same ∙ k.entries_same;
+    }
+
+    -- the same where the two words of the level are put back
+    pub next_walked : {g : Goal} {f r : Tally} {before after levels binds last : List ℕ} {start len : ℕ} → m ≡ Next a
+        → start ≡ get_or s.levels (2 * s.depth) 0 → len ≡ get_or s.levels (2 * s.depth + 1) 0
+        → Walked g (events_from v (p + 1) (spec_place_of a lv bd)) f r before after (spec_place_of a lv bd) levels binds
+        → last ≡ set (set levels (2 * s.depth) start) (2 * s.depth + 1) len → Walked g (events_from v p s) f r before after s last binds
+    unfolding Restores
+    next_walked {start = start} {len = len} e es el h q = record {
+      written = written_same (turn_next e) h.written;
+      levels-same = q ∙ ap (λ l. set (set l (2 * s.depth) start) (2 * s.depth + 1) len) h.levels-same
+          ∙ ap₂ (λ x y. set (set lv (2 * s.depth) x) (2 * s.depth + 1) y) es el ∙ k.back;
       entries_same = entries_fewer _ bd s.bound a.bound (next_grows e) h.entries_same ∙ k.entries_same;
     }

@@ -1,7 +1,7 @@
 -- Laws of names: when two are one, and finding a name in a table from its start on.
-use Rattle.std.specs.Prelude.{◌≡◌, refl, Option, Some, None, is_some, unwrap_or, true, false, get_or, ℕ, suc, zero, ◌+◌, ◌<◌, ◌≤◌}
+use Rattle.std.specs.Prelude.{◌≡◌, refl, Option, Some, None, is_some, unwrap_or, true, false, get_or, take, ℕ, suc, zero, ◌+◌, ◌<◌, ◌≤◌}
 use Rattle.std.proofs.Math.Path.{ap, sym}
-use Rattle.std.proofs.Common.{◌∙◌}
+use Rattle.std.proofs.Common.{◌∙◌, get_or-take, length-take-le}
 use mathlib.Core.List.{List, [], ◌∷◌, ◌++◌}
 use Rattle.std.proofs.Math.ListN.{length, drop, get_or-map}
 use Rattle.std.proofs.lemmas.List.{length-map}
@@ -133,12 +133,26 @@ module _ (names w : List ℕ) where
 -- ---- the names of numbered records ----
 
 module _ (names w firsts : List ℕ) where
-  pub firsts_length : length (first_names names w firsts) ≡ length firsts
-  firsts_length = length-map firsts _
+  pub firsts_size : length (first_names names w firsts) ≡ length firsts
+  firsts_size = length-map firsts _
 
-  pub first_next : (i : ℕ) {j : ℕ} {t : Item} → i < length firsts → j ≡ get_or firsts i 0 → t ≡ record_at item_layout w j
+  pub first_here : (i : ℕ) {j : ℕ} {t : Item} → i < length firsts → j ≡ get_or firsts i 0 → t ≡ record_at item_layout w j
       → drop i (first_names names w firsts) ≡ item_name names t ∷ drop (i + 1) (first_names names w firsts)
-  first_next i {j} h e q = map_next _ firsts i {y = get_or firsts i 0} (entry_next firsts i 0 h) ∙ rw (← e, ← q) refl
+  first_here i {j} h e q = map_next _ firsts i {y = get_or firsts i 0} (entry_next firsts i 0 h) ∙ rw (← e, ← q) refl
+
+-- Those of the first n of the numbers.
+module _ (names w firsts : List ℕ) (n : ℕ) (fits : n ≤ length firsts) where
+  pub firsts_length : length (first_names names w (take n firsts)) ≡ n
+  firsts_length = length-map (take n firsts) _ ∙ length-take-le n firsts fits
+
+  pub firsts_few : (x : Name) {k : ℕ} → k ≡ find x (first_names names w (take n firsts)) → k ≤ n
+  firsts_few x e = omega (arith, find_le x (first_names names w (take n firsts)), firsts_length)
+
+  pub first_next : (i : ℕ) {j : ℕ} {t : Item} → i < n → j ≡ get_or firsts i 0 → t ≡ record_at item_layout w j
+      → drop i (first_names names w (take n firsts)) ≡ item_name names t ∷ drop (i + 1) (first_names names w (take n firsts))
+  first_next i {j} h e q =
+      map_next _ (take n firsts) i {y = get_or (take n firsts) i 0} (entry_next (take n firsts) i 0 (rw (length-take-le n firsts fits) h))
+      ∙ rw (get_or-take n firsts i 0 h, ← e, ← q) refl
 
 module _ (names w firsts : List ℕ) (n i : ℕ) {j : ℕ} (h : ItemTexts names w firsts n) (lt : i < n) (e : j ≡ get_or firsts i 0) where
   pub first-inside : Lies item_layout w (j + 1)

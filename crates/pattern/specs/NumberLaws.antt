@@ -1,7 +1,7 @@
 -- Laws of numbering names: what the records from i on add to the table and to the numbers comes, after what is there, to the same as the whole.
 use Rattle.std.specs.Prelude.{◌≡◌, refl, List, [], ◌∷◌, ◌++◌, map, Bool, true, false, ◌&&◌, T, leb, ltb, eqb, get_or, set, take, drop, ℕ, suc, zero, ◌+◌, ◌<◌, ◌≤◌, min}
 use Rattle.std.proofs.Math.Path.{ap, sym}
-use Rattle.std.proofs.Common.{◌∙◌, append_assoc, append-nil, leb→le, length-append, take-suc-set, add-one, arith}
+use Rattle.std.proofs.Common.{◌∙◌, append_assoc, append-nil, leb→le, length-set, length-append, take-suc-set, get_or-set_same, get_or-set_other, add-one, arith}
 use Rattle.std.proofs.lemmas.List.{map-append}
 use Rattle.std.proofs.Math.ListN.{length, get_or-append}
 use Rattle.std.proofs.Math.Seq.{append_snoc, get_or-append_seam}
@@ -20,7 +20,7 @@ use Rattle.match_spec.specs.Pattern.{binding_layout, Name, name_at, find, add_if
 use Rattle.match_spec.proofs.NameLaws.{find_le, add-length, names_grow}
 use Rattle.pattern.specs.Records.{items_in, bindings_in, numbers_of, variable, item_name, first_names, table_at, ItemTexts}
 use Rattle.pattern.specs.PatternLaws.{Variable, s_kind, t_kind, e_kind, variable_kind, item_variable}
-use Rattle.pattern.specs.NameLaws.{bindings-length, firsts_length}
+use Rattle.pattern.specs.NameLaws.{bindings-length, firsts_length, firsts_size}
 
 -- ---- a record's name lies in the names ----
 
@@ -113,30 +113,30 @@ abbrev pub start_names : List ℕ → List ℕ → List Name
 start_names names bindings = binding_names names (records binding_layout bindings)
 
 -- What it holds: `firsts` has the numbers of the records that brought the new names, and `numbers` the numbers of the records before i.
-pub record Numbering (names w bindings firsts numbers : List ℕ) (i : ℕ) : Type 0 where
+pub record Numbered (names w bindings firsts numbers : List ℕ) (i : ℕ) : Type 0 where
   pub past : i ≤ items_in w
   pub few : bindings_in bindings + length firsts ≤ name_limit
   pub texts : ItemTexts names w firsts (length firsts)
   pub table : names_after (elements_from names w i) (table_at names w bindings firsts) ≡ names_after (elements_from names w 0) (start_names names bindings)
   pub given : take i numbers ++ numbers_of (elements_from names w i) (table_at names w bindings firsts) ≡ numbers_of (elements_from names w 0) (start_names names bindings)
 
-table-length : (names w bindings firsts : List ℕ) → length (table_at names w bindings firsts) ≡ bindings_in bindings + length firsts
+table_size : (names w bindings firsts : List ℕ) → length (table_at names w bindings firsts) ≡ bindings_in bindings + length firsts
 unfolding records count
-table-length names w bindings firsts =
+table_size names w bindings firsts =
     length-append (binding_names names (decode binding_layout (bindings_in bindings) bindings)) (first_names names w firsts)
-    ∙ omega (arith, bindings-length names bindings (bindings_in bindings), firsts_length names w firsts)
+    ∙ omega (arith, bindings-length names bindings (bindings_in bindings), firsts_size names w firsts)
 
 -- one new name more, brought by record i
-table_more : (names w bindings firsts : List ℕ) (i : ℕ) {t : Item} → t ≡ record_at item_layout w i
+table_longer : (names w bindings firsts : List ℕ) (i : ℕ) {t : Item} → t ≡ record_at item_layout w i
     → table_at names w bindings firsts ++ (item_name names t ∷ []) ≡ table_at names w bindings (firsts ++ (i ∷ []))
-table_more names w bindings firsts i e =
+table_longer names w bindings firsts i e =
     append_assoc (start_names names bindings) (first_names names w firsts) _
     ∙ ap (start_names names bindings ++◌) (rw e (sym (map-append (λ j. item_name names (record_at item_layout w j)) firsts (i ∷ []))))
 
-texts_more : (names w firsts : List ℕ) (i : ℕ) {t : Item} → i < items_in w → t ≡ record_at item_layout w i → t.a + t.b ≤ length names → ItemTexts names w firsts (length firsts)
+texts_longer : (names w firsts : List ℕ) (i : ℕ) {t : Item} → i < items_in w → t ≡ record_at item_layout w i → t.a + t.b ≤ length names → ItemTexts names w firsts (length firsts)
     → ItemTexts names w (firsts ++ (i ∷ [])) (length (firsts ++ (i ∷ [])))
 unfolding ItemTexts
-texts_more names w firsts i {t} inside e within old j lj = go (ℕ_discrete j (length firsts))
+texts_longer names w firsts i {t} inside e within old j lj = go (ℕ_discrete j (length firsts))
   where
     go : Dec (j ≡ length firsts) → Lies item_layout w (get_or (firsts ++ (i ∷ [])) j 0 + 1)
         × ((record_at item_layout w (get_or (firsts ++ (i ∷ [])) j 0)).a + (record_at item_layout w (get_or (firsts ++ (i ∷ [])) j 0)).b ≤ length names)
@@ -158,16 +158,16 @@ given-more : (numbers : List ℕ) (i v : ℕ) (rest : List ℕ) {all more : List
 given-more numbers i v rest lt e h = rw (e, add-one, take-suc-set numbers i v lt) (append_snoc (take i numbers) v rest ∙ h)
 
 -- Record i, which is t, and whether it is a variable's.
-pub record Here (names w bindings firsts numbers : List ℕ) (i : ℕ) (t : Item) (b : Bool) : Type 0 where
-  pub now : Numbering names w bindings firsts numbers i
+pub record AtRecord (names w bindings firsts numbers : List ℕ) (i : ℕ) (t : Item) (b : Bool) : Type 0 where
+  pub now : Numbered names w bindings firsts numbers i
   pub more : i < items_in w
   pub wide : i < length numbers
   pub read : t ≡ record_at item_layout w i
   pub kind : variable t.kind ≡ b
 
-pub numbering_start : (names w bindings numbers : List ℕ) → AtMost binding_layout bindings name_limit → Numbering names w bindings [] numbers 0
+pub numbered_start : (names w bindings numbers : List ℕ) → AtMost binding_layout bindings name_limit → Numbered names w bindings [] numbers 0
 unfolding ItemTexts
-numbering_start names w bindings numbers l = record {
+numbered_start names w bindings numbers l = record {
   past = omega arith;
   few = omega arith;
   texts = λ j h. absurd (omega arith);
@@ -177,24 +177,24 @@ numbering_start names w bindings numbers l = record {
 
 module _ {names w bindings firsts numbers : List ℕ} {i : ℕ} where
   -- all records are passed
-  module _ (now : Numbering names w bindings firsts numbers i) (h : items_in w ≤ i) where
-    ended : i ≡ items_in w
-    ended = omega (arith, now.past)
+  module _ (now : Numbered names w bindings firsts numbers i) (h : items_in w ≤ i) where
+    numbered_ended : i ≡ items_in w
+    numbered_ended = omega (arith, now.past)
 
-    pub names_all : bindings_in bindings + length firsts ≡ min (name_limit + 1) (length (names_after (elements_from names w 0) (start_names names bindings)))
+    pub numbered_names : bindings_in bindings + length firsts ≡ min (name_limit + 1) (length (names_after (elements_from names w 0) (start_names names bindings)))
     unfolding names_after
-    names_all = omega (arith, table-length names w bindings firsts, now.few, ap length (rw (elements_done names w i ended) at now.table))
+    numbered_names = omega (arith, table_size names w bindings firsts, now.few, ap length (rw (elements_done names w i numbered_ended) at now.table))
 
-    pub numbers_all : take (count item_layout w) numbers ≡ numbers_of (elements_from names w 0) (start_names names bindings)
+    pub numbered_all : take (count item_layout w) numbers ≡ numbers_of (elements_from names w 0) (start_names names bindings)
     unfolding numbers_of count
-    numbers_all = sym (append-nil (take (items_in w) numbers)) ∙ (rw (elements_done names w i ended, ended) at now.given)
+    numbered_all = sym (append-nil (take (items_in w) numbers)) ∙ (rw (elements_done names w i numbered_ended, numbered_ended) at now.given)
 
   -- record i gets its number, and the table becomes that of `newer`
-  numbered : {t : Item} {b : Bool} {more newer : List ℕ} {v : ℕ} → Here names w bindings firsts numbers i t b
+  numbered_next : {t : Item} {b : Bool} {more newer : List ℕ} {v : ℕ} → AtRecord names w bindings firsts numbers i t b
       → Adds (element_k t.kind names t) (elements_from names w (i + 1)) (table_at names w bindings firsts) (table_at names w bindings newer) v
       → more ≡ set numbers i v → bindings_in bindings + length newer ≤ name_limit → ItemTexts names w newer (length newer)
-      → Numbering names w bindings newer more (i + 1)
-  numbered {v = v} here adds q few texts =
+      → Numbered names w bindings newer more (i + 1)
+  numbered_next {v = v} here adds q few texts =
       let next = elements_next names w i here.more here.read in
       record {
         past = omega (arith, here.more);
@@ -204,41 +204,172 @@ module _ {names w bindings firsts numbers : List ℕ} {i : ℕ} where
         given = given-more numbers i v _ here.wide q (ap (take i numbers ++◌) (sym adds.numbers) ∙ (rw next at here.now.given));
       }
 
-  pub plain : {t : Item} {more : List ℕ} → Here names w bindings firsts numbers i t false → more ≡ set numbers i 0 → Numbering names w bindings firsts more (i + 1)
-  plain {t} here q =
-      numbered here (nameless t.kind names t here.kind (elements_from names w (i + 1)) (table_at names w bindings firsts)) q here.now.few here.now.texts
+  pub numbered_plain : {t : Item} {more : List ℕ} → AtRecord names w bindings firsts numbers i t false → more ≡ set numbers i 0 → Numbered names w bindings firsts more (i + 1)
+  numbered_plain {t} here q =
+      numbered_next here (nameless t.kind names t here.kind (elements_from names w (i + 1)) (table_at names w bindings firsts)) q here.now.few here.now.texts
 
   -- t is a variable, and its name's place in the table is `at`
-  module _ {t : Item} {at : ℕ} (here : Here names w bindings firsts numbers i t true) (f : at ≡ find (item_name names t) (table_at names w bindings firsts)) where
-    adds : Adds (element_k t.kind names t) (elements_from names w (i + 1)) (table_at names w bindings firsts) (add (item_name names t) (table_at names w bindings firsts)) at
-    adds = let (lo, hi) = kind_bounds t.kind here.kind in rw f (named t.kind names t (variable_kind t.kind lo hi) (elements_from names w (i + 1)) (table_at names w bindings firsts))
+  module _ {t : Item} {at : ℕ} (here : AtRecord names w bindings firsts numbers i t true) (f : at ≡ find (item_name names t) (table_at names w bindings firsts)) where
+    numbered_adds : Adds (element_k t.kind names t) (elements_from names w (i + 1)) (table_at names w bindings firsts) (add (item_name names t) (table_at names w bindings firsts)) at
+    numbered_adds = let (lo, hi) = kind_bounds t.kind here.kind in rw f (named t.kind names t (variable_kind t.kind lo hi) (elements_from names w (i + 1)) (table_at names w bindings firsts))
 
-    pub too_many : name_limit ≤ at → name_limit + 1 ≡ min (name_limit + 1) (length (names_after (elements_from names w 0) (start_names names bindings)))
-    too_many h =
+    pub numbered_many : name_limit ≤ at → name_limit + 1 ≡ min (name_limit + 1) (length (names_after (elements_from names w 0) (start_names names bindings)))
+    numbered_many h =
         let (u, q) = names_grow (elements_from names w (i + 1)) (add (item_name names t) (table_at names w bindings firsts)) in
         let all = rw (elements_next names w i here.more here.read) at here.now.table in
         omega (
           arith,
-          table-length names w bindings firsts,
+          table_size names w bindings firsts,
           here.now.few,
           find_le (item_name names t) (table_at names w bindings firsts),
           add-length (item_name names t) (table_at names w bindings firsts),
           length-append (add (item_name names t) (table_at names w bindings firsts)) u,
+          ap length (sym all ∙ numbered_adds.table ∙ q),
+        )
+
+    module _ {more : List ℕ} (q : more ≡ set numbers i at) where
+      pub numbered_known : at < bindings_in bindings + length firsts → Numbered names w bindings firsts more (i + 1)
+      numbered_known h =
+          let k : add (item_name names t) (table_at names w bindings firsts) ≡ table_at names w bindings firsts =
+          add_known _ _ (omega (arith, table_size names w bindings firsts)) in
+          numbered_next here (rw k at numbered_adds) q here.now.few here.now.texts
+
+      pub numbered_met : {newer : List ℕ} → t.a + t.b ≤ length names → at < name_limit → bindings_in bindings + length firsts ≤ at → newer ≡ firsts ++ (i ∷ [])
+          → Numbered names w bindings newer more (i + 1)
+      numbered_met within l h z =
+          let k : add (item_name names t) (table_at names w bindings firsts) ≡ table_at names w bindings (firsts ++ (i ∷ [])) =
+          add-new _ _ (omega (arith, table_size names w bindings firsts)) ∙ table_longer names w bindings firsts i here.read in
+          rw z
+          (numbered_next here (rw k at numbered_adds) q (omega (arith, length-append firsts (i ∷ [])))
+          (texts_longer names w firsts i here.more here.read within here.now.texts))
+
+-- ---- the same where the new names are those of the first `new` numbers of a list of fixed length ----
+
+-- What it holds: `firsts` has the numbers of the records that brought the new names, and `numbers` the numbers of the records before i.
+pub record Numbering (names w bindings firsts numbers : List ℕ) (new i : ℕ) : Type 0 where
+  pub past : i ≤ items_in w
+  pub room : length firsts ≡ name_limit
+  pub few : bindings_in bindings + new ≤ name_limit
+  pub texts : ItemTexts names w firsts new
+  pub table : names_after (elements_from names w i) (table_at names w bindings (take new firsts)) ≡ names_after (elements_from names w 0) (start_names names bindings)
+  pub given : take i numbers ++ numbers_of (elements_from names w i) (table_at names w bindings (take new firsts)) ≡ numbers_of (elements_from names w 0) (start_names names bindings)
+
+table-length : (names w bindings firsts : List ℕ) (new : ℕ) → new ≤ length firsts → length (table_at names w bindings (take new firsts)) ≡ bindings_in bindings + new
+unfolding records count
+table-length names w bindings firsts new h =
+    length-append (binding_names names (decode binding_layout (bindings_in bindings) bindings)) (first_names names w (take new firsts))
+    ∙ omega (arith, bindings-length names bindings (bindings_in bindings), firsts_length names w firsts new h)
+
+-- one new name more, brought by record i
+table_more : (names w bindings firsts : List ℕ) (new i : ℕ) {t : Item} → new < length firsts → t ≡ record_at item_layout w i
+    → table_at names w bindings (take new firsts) ++ (item_name names t ∷ []) ≡ table_at names w bindings (take (new + 1) (set firsts new i))
+table_more names w bindings firsts new i lt e =
+    append_assoc (start_names names bindings) (first_names names w (take new firsts)) _
+    ∙ ap (start_names names bindings ++◌) (rw (add-one, take-suc-set firsts new i lt, e) (sym (map-append (λ j. item_name names (record_at item_layout w j)) (take new firsts) (i ∷ []))))
+
+texts_more : (names w firsts : List ℕ) (new i : ℕ) {t : Item} → new < length firsts → i < items_in w → t ≡ record_at item_layout w i → t.a + t.b ≤ length names → ItemTexts names w firsts new
+    → ItemTexts names w (set firsts new i) (new + 1)
+unfolding ItemTexts
+texts_more names w firsts new i {t} lt inside e within old j lj = go (ℕ_discrete j new)
+  where
+    go : Dec (j ≡ new) → Lies item_layout w (get_or (set firsts new i) j 0 + 1)
+        × ((record_at item_layout w (get_or (set firsts new i) j 0)).a + (record_at item_layout w (get_or (set firsts new i) j 0)).b ≤ length names)
+    go (yes q) = rw (q, get_or-set_same firsts new i 0 lt, ← e) (omega arith, within)
+    go (no q) = rw (get_or-set_other firsts new j i 0 q) (old j (omega arith))
+
+-- Record i, which is t, and whether it is a variable's.
+pub record Here (names w bindings firsts numbers : List ℕ) (new i : ℕ) (t : Item) (b : Bool) : Type 0 where
+  pub now : Numbering names w bindings firsts numbers new i
+  pub more : i < items_in w
+  pub wide : i < length numbers
+  pub read : t ≡ record_at item_layout w i
+  pub kind : variable t.kind ≡ b
+
+pub numbering_start : (names w bindings firsts numbers : List ℕ) → length firsts ≡ name_limit → AtMost binding_layout bindings name_limit
+    → Numbering names w bindings firsts numbers 0 0
+unfolding ItemTexts
+numbering_start names w bindings firsts numbers e l = record {
+  past = omega arith;
+  room = e;
+  few = omega arith;
+  texts = λ j h. absurd (omega arith);
+  table = ap (names_after (elements_from names w 0)) (append-nil (start_names names bindings));
+  given = ap (numbers_of (elements_from names w 0)) (append-nil (start_names names bindings));
+}
+
+-- The table of names with the first `new` of the records that brought one.
+abbrev table_so_far : List ℕ → List ℕ → List ℕ → List ℕ → ℕ → List Name
+table_so_far names w bindings firsts new = table_at names w bindings (take new firsts)
+
+module _ {names w bindings firsts numbers : List ℕ} {new i : ℕ} where
+  size : Numbering names w bindings firsts numbers new i → length (table_so_far names w bindings firsts new) ≡ bindings_in bindings + new
+  size now = table-length names w bindings firsts new (omega (arith, now.few, now.room))
+
+  -- all records are passed
+  module _ (now : Numbering names w bindings firsts numbers new i) (h : items_in w ≤ i) where
+    ended : i ≡ items_in w
+    ended = omega (arith, now.past)
+
+    pub names_all : bindings_in bindings + new ≡ min (name_limit + 1) (length (names_after (elements_from names w 0) (start_names names bindings)))
+    unfolding names_after
+    names_all = omega (arith, size now, now.few, ap length (rw (elements_done names w i ended) at now.table))
+
+    pub numbers_all : take (count item_layout w) numbers ≡ numbers_of (elements_from names w 0) (start_names names bindings)
+    unfolding numbers_of count
+    numbers_all = sym (append-nil (take (items_in w) numbers)) ∙ (rw (elements_done names w i ended, ended) at now.given)
+
+  -- record i gets its number, and the table becomes that of `newer`
+  numbered : {t : Item} {b : Bool} {more newer : List ℕ} {now v : ℕ} → Here names w bindings firsts numbers new i t b
+      → Adds (element_k t.kind names t) (elements_from names w (i + 1)) (table_so_far names w bindings firsts new) (table_at names w bindings (take now newer)) v
+      → more ≡ set numbers i v → length newer ≡ name_limit → bindings_in bindings + now ≤ name_limit → ItemTexts names w newer now
+      → Numbering names w bindings newer more now (i + 1)
+  numbered {v = v} here adds q room few texts =
+      let next = elements_next names w i here.more here.read in
+      record {
+        past = omega (arith, here.more);
+        room = room;
+        few = few;
+        texts = texts;
+        table = sym adds.table ∙ (rw next at here.now.table);
+        given = given-more numbers i v _ here.wide q (ap (take i numbers ++◌) (sym adds.numbers) ∙ (rw next at here.now.given));
+      }
+
+  pub plain : {t : Item} {more : List ℕ} → Here names w bindings firsts numbers new i t false → more ≡ set numbers i 0
+      → Numbering names w bindings firsts more new (i + 1)
+  plain {t} here q =
+      numbered here (nameless t.kind names t here.kind (elements_from names w (i + 1)) (table_so_far names w bindings firsts new)) q here.now.room here.now.few here.now.texts
+
+  -- t is a variable, and its name's place in the table is `at`
+  module _ {t : Item} {at : ℕ} (here : Here names w bindings firsts numbers new i t true) (f : at ≡ find (item_name names t) (table_so_far names w bindings firsts new)) where
+    adds : Adds (element_k t.kind names t) (elements_from names w (i + 1)) (table_so_far names w bindings firsts new) (add (item_name names t) (table_so_far names w bindings firsts new)) at
+    adds = let (lo, hi) = kind_bounds t.kind here.kind in rw f (named t.kind names t (variable_kind t.kind lo hi) (elements_from names w (i + 1)) (table_so_far names w bindings firsts new))
+
+    pub too_many : name_limit ≤ at → name_limit + 1 ≡ min (name_limit + 1) (length (names_after (elements_from names w 0) (start_names names bindings)))
+    too_many h =
+        let (u, q) = names_grow (elements_from names w (i + 1)) (add (item_name names t) (table_so_far names w bindings firsts new)) in
+        let all = rw (elements_next names w i here.more here.read) at here.now.table in
+        omega (
+          arith,
+          size here.now,
+          here.now.few,
+          find_le (item_name names t) (table_so_far names w bindings firsts new),
+          add-length (item_name names t) (table_so_far names w bindings firsts new),
+          length-append (add (item_name names t) (table_so_far names w bindings firsts new)) u,
           ap length (sym all ∙ adds.table ∙ q),
         )
 
     module _ {more : List ℕ} (q : more ≡ set numbers i at) where
-      pub known : at < bindings_in bindings + length firsts → Numbering names w bindings firsts more (i + 1)
+      pub known : at < bindings_in bindings + new → Numbering names w bindings firsts more new (i + 1)
       known h =
-          let k : add (item_name names t) (table_at names w bindings firsts) ≡ table_at names w bindings firsts =
-          add_known _ _ (omega (arith, table-length names w bindings firsts)) in
-          numbered here (rw k at adds) q here.now.few here.now.texts
+          let k : add (item_name names t) (table_so_far names w bindings firsts new) ≡ (table_so_far names w bindings firsts new) = add_known _ _ (omega (arith, size here.now)) in
+          numbered here (rw k at adds) q here.now.room here.now.few here.now.texts
 
-      pub met : {newer : List ℕ} → t.a + t.b ≤ length names → at < name_limit → bindings_in bindings + length firsts ≤ at → newer ≡ firsts ++ (i ∷ [])
-          → Numbering names w bindings newer more (i + 1)
+      pub met : {newer : List ℕ} → t.a + t.b ≤ length names → at < name_limit → bindings_in bindings + new ≤ at → newer ≡ set firsts new i
+          → Numbering names w bindings newer more (new + 1) (i + 1)
       met within l h z =
-          let k : add (item_name names t) (table_at names w bindings firsts) ≡ table_at names w bindings (firsts ++ (i ∷ [])) =
-          add-new _ _ (omega (arith, table-length names w bindings firsts)) ∙ table_more names w bindings firsts i here.read in
+          let lt : new < length firsts = omega (arith, here.now.room) in
+          let k : add (item_name names t) (table_so_far names w bindings firsts new) ≡ table_at names w bindings (take (new + 1) (set firsts new i)) =
+          add-new _ _ (omega (arith, size here.now)) ∙ table_more names w bindings firsts new i lt here.read in
           rw z
-          (numbered here (rw k at adds) q (omega (arith, length-append firsts (i ∷ [])))
-          (texts_more names w firsts i here.more here.read within here.now.texts))
+          (numbered here (rw k at adds) q (length-set firsts new i ∙ here.now.room) (omega arith)
+          (texts_more names w firsts new i lt here.more here.read within here.now.texts))

@@ -1,7 +1,7 @@
 -- Laws of the splits where a rigid run fits: where its first record cannot fit the run does not, and the first split that fits is found by
 -- passing over those that do not.
-use Rattle.std.specs.Prelude.{◌≡◌, refl, List, Bool, true, false, length, get_or, drop, ℕ, ◌+◌, ◌-◌, ◌/◌, ◌<◌, ◌≤◌}
-use Rattle.std.proofs.Common.{sym, ap, subst, ◌∙◌, ne_eqb, arith}
+use Rattle.std.specs.Prelude.{◌≡◌, refl, List, Bool, true, false, eqb, length, get_or, drop, ℕ, ◌+◌, ◌-◌, ◌/◌, ◌<◌, ◌≤◌}
+use Rattle.std.proofs.Common.{sym, ap, subst, ◌∙◌, eq-eqb, ne_eqb, arith}
 use Rattle.std.proofs.Math.Decide.{ℕ_discrete, dec_lt}
 use Rattle.term_spec.specs.Words.{decode, record_at, count}
 use Rattle.term_spec.specs.Term.{Term, Run, term_layout}
@@ -36,6 +36,14 @@ module _ (names w : List ℕ) (used i : ℕ) (t : Item) (lt : i < used) (low : t
       go : Dec (t.kind ≡ 3) → false ≡ fits_term names (decode term_layout used w) t i
       go (yes e) = sym (ne_eqb (record_at term_layout w i).kind 3 (bracket_apart t (record_at term_layout w i) e apart)) ∙ term_bracket names w used i t (record_at term_layout w i) lt refl e
       go (no n) = term_literal names w used i t (record_at term_layout w i) lt refl (omega arith) (literal_apart names t (record_at term_layout w i) (omega arith) apart)
+
+-- Why a run may not begin at a term, exit by exit of the code.
+module _ (t : Item) (u v : Term) (at : u ≡ v) where
+  pub begin_kinds : eqb u.kind t.kind ≡ false → Apart t v
+  begin_kinds b = subst (Apart t) at (kinds (λ q. let y : true ≡ false = sym (eq-eqb u.kind t.kind q) ∙ b in let x : ◌≡◌ {A = ℕ} 0 1 = cc in omega arith))
+
+  pub begin_chars : t.kind ≡ 0 → (u.a ≡ t.a → ⊥) → Apart t v
+  begin_chars z n = subst (Apart t) at (chars z n)
 
 -- What holds from `from` on below i, and of i, holds below i + 1.
 pub from_more : (P : ℕ → Type 0) (from i : ℕ) → ((h : ℕ) → from ≤ h → h < i → P h) → P i → (h : ℕ) → from ≤ h → h < i + 1 → P h
@@ -97,8 +105,11 @@ module _ {f : ℕ → Bool} {k n : ℕ} where
     pub first_found : j ≤ n → f j ≡ true → FirstFit f k n j
     first_found a e = record { low = o.low; high = o.high; passed = o.none; fits = λ h. e }
 
-    pub first_none : n < j → FirstFit f k n (n + 1)
-    first_none a = let e : j ≡ n + 1 = omega (arith, o.high) in
+    pub first_none : n < j → FirstFit f k n j
+    first_none a = record { low = o.low; high = o.high; passed = o.none; fits = λ h. absurd (omega arith) }
+
+    pub first_past : n < j → FirstFit f k n (n + 1)
+    first_past a = let e : j ≡ n + 1 = omega (arith, o.high) in
         record { low = omega (arith, o.low); high = omega arith; passed = λ i x y. o.none i x (omega arith); fits = λ h. absurd (omega arith) }
 
 -- The splits where record p cannot begin fail too.

@@ -5,8 +5,8 @@ use mathlib.Core.List.{List, [], ◌∷◌, ◌++◌}
 use Rattle.std.proofs.lemmas.List.{set-get_or, set_comm}
 use Rattle.std.proofs.Math.Numerals.{add-one}
 use Rattle.term_spec.specs.Words.{decode, record_at}
-use Rattle.term_spec.proofs.WordsLaws.{decode-below, decode-length}
-use Rattle.term_spec.specs.Term.{Run, run_layout}
+use Rattle.term_spec.proofs.WordsLaws.{decode-at, decode-below, decode-length, decode-snoc}
+use Rattle.term_spec.specs.Term.{Run, no_run, run_layout}
 use Rattle.term_spec.specs.Words.{Lies, write}
 use Rattle.term_spec.proofs.WordsLaws.{run_lays}
 use Rattle.words.specs.RecordLaws.{run_read, record_written}
@@ -19,6 +19,10 @@ run_at w i p q =
     let e : 2 * i ≡ i * 2 = omega arith in
     run_read w i (rw e at p) (rw e at q)
 
+pub entry_at : (w : List ℕ) (n i : ℕ) {a b : ℕ} → i < n → a ≡ get_or w (2 * i) 0 → b ≡ get_or w (2 * i + 1) 0
+    → record { start = a; len = b } ≡ get_or (decode run_layout n w) i no_run
+entry_at w n i h p q = run_at w i p q ∙ sym (decode-at run_layout n i w no_run h)
+
 -- A write above a run leaves it.
 run-kept : (w : List ℕ) (d i v : ℕ) → 2 * d + 2 ≤ i → record_at run_layout (set w i v) d ≡ record_at run_layout w d
 run-kept w d i v h =
@@ -30,6 +34,14 @@ stack_kept : (w : List ℕ) (d i v : ℕ) → 2 * d ≤ i → stack_of d (set w 
 unfolding stack_of
 stack_kept w zero i v h = refl
 stack_kept w (suc d) i v h = ap₂ ◌∷◌ (run-kept w d i v (omega arith)) (stack_kept w d i v (omega arith))
+
+entries_kept : (w : List ℕ) (n i v : ℕ) → 2 * n ≤ i → decode run_layout n (set w i v) ≡ decode run_layout n w
+unfolding decode
+entries_kept w zero i v h = refl
+entries_kept w (suc n) i v h =
+    decode-snoc run_layout n (set w i v)
+    ∙ ap₂ (λ x y. x ++ (y ∷ [])) (entries_kept w n i v (omega arith)) (run-kept w n i v (omega arith))
+    ∙ sym (decode-snoc run_layout n w)
 
 -- A run written is two words.
 pub run_written : (w : List ℕ) (i : ℕ) (r : Run) → Lies run_layout w (i + 1) → write run_layout w i (r ∷ []) ≡ set (set w (2 * i) r.start) (2 * i + 1) r.len
@@ -50,6 +62,12 @@ module _ (w : List ℕ) (i a b : ℕ) (h : 2 * i + 1 < length w) where
   pub stack_more : stack_of (i + 1) (set (set w (2 * i) a) (2 * i + 1) b) ≡ record { start = a; len = b } ∷ stack_of i w
   unfolding stack_of
   stack_more = rw add-one (ap₂ ◌∷◌ run-set (stack_kept (set w (2 * i) a) i (2 * i + 1) b (omega arith) ∙ stack_kept w i (2 * i) a (omega arith)))
+
+  pub entries_more : decode run_layout (i + 1) (set (set w (2 * i) a) (2 * i + 1) b) ≡ decode run_layout i w ++ (record { start = a; len = b } ∷ [])
+  entries_more =
+      rw add-one
+      (decode-snoc run_layout i _
+      ∙ ap₂ (λ x y. x ++ (y ∷ [])) (entries_kept (set w (2 * i) a) i (2 * i + 1) b (omega arith) ∙ entries_kept w i (2 * i) a (omega arith)) run-set)
 
 -- The last run, and those before it.
 pub stack_less : (w : List ℕ) (d : ℕ) {a b : ℕ} → 1 ≤ d → a ≡ get_or w (2 * (d - 1)) 0 → b ≡ get_or w (2 * (d - 1) + 1) 0

@@ -86,6 +86,13 @@ cells_in names terms used = cells_of names (decode term_layout used terms)
 abbrev pub turn_at : List ℕ → List ℕ → ℕ → Element ℕ → Bool → Place → Turn Run
 turn_at names terms used e last s = turn (store_runs names terms used) e last (levels_of s) (entries_of s)
 
+-- What the code says that a record does, as a turn at the place that the walk is at after it.
+unfoldable pub turn_as : Turned → Place → Turn Run
+turn_as Stop s = stop
+turn_as (Next t) s = next (levels_of s) (entries_of s)
+turn_as (Split t) s = split (level_of s) (stack_of s.depth s.levels) (entries_of s)
+turn_as Call s = called
+
 -- What the code says that a record does, as a turn, over the words that it leaves.
 unfoldable pub turn_of : Turned → List ℕ → List ℕ → Turn Run
 turn_of Stop lv bd = stop

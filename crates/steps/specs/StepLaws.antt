@@ -1,7 +1,7 @@
 -- What a record does at a place, exit by exit of the code: r is the innermost level, st the levels around it, env the entries.
 use Rattle.std.specs.Prelude.{◌≡◌, List, [], ◌∷◌, ◌++◌, Bool, true, false, T, eqb, set, drop}
 use Rattle.std.proofs.Math.Path.{refl, ap, sym}
-use Rattle.std.proofs.Common.{ap₂, subst, ◌∙◌, ne_eqb}
+use Rattle.std.proofs.Common.{ap₂, subst, ◌∙◌, eq-eqb, ne_eqb}
 use Rattle.std.proofs.Math.ListN.{length, get_or, drop_of_length-le}
 use Rattle.std.proofs.Math.Seq.{drop-cons}
 use Prim.Native.Nat.{ℕ, suc, zero, ◌+◌, ◌-◌, ◌*◌, ◌/◌, ◌<◌, ◌≤◌}
@@ -23,10 +23,10 @@ use Rattle.kinds.specs.Kinds.{takes_term}
 use Rattle.items.specs.Records.{term_of_item}
 use Rattle.steps.specs.declared.State.{State}
 use Rattle.steps.specs.declared.Turned.{Turned}
-use Rattle.steps.specs.declared.Turned.TheVariants.{Next}
+use Rattle.steps.specs.declared.Turned.TheVariants.{Stop, Next, Split}
 use Rattle.steps.specs.Turn.{Turn, stop, next, split, called, turn_if, turn_enter, turn_leave, turn_bind, turn_spread, turn_top, turn}
-use Rattle.steps.specs.State.{cells_in, back_of, stack_of, spec_place_of, levels_of, entries_of, entries_in, turn_of, Known, Place, Stands, LevelsKept}
-use Rattle.steps.specs.State.{renamed, coded, coded_all, Fine}
+use Rattle.steps.specs.State.{cells_in, back_of, stack_of, spec_place_of, levels_of, entries_of, entries_in, turn_as, turn_of, Known, Place, Stands, LevelsKept}
+use Rattle.steps.specs.State.{EndsApart, renamed, coded, coded_all, Fine}
 use Rattle.steps.specs.ArrayLaws.{restores-same, restores-two}
 use Rattle.steps.specs.CellLaws.{if_yes, if_no, literal_value, enter_no, enter_yes, takes_record, cells_size, first_none, first_some, empty_yes, empty_no}
 use Rattle.steps.specs.CellLaws.{begins_yes, begins_no, begins_long, run_begins, run_differs}
@@ -37,23 +37,53 @@ turn_in names w used = turn (runs names (decode term_layout used w))
 
 -- ---- turns as the code takes them ----
 
-pub went : (s : State) (lv bd : List ℕ) {ls env : List Run}
+pub stopped : (m : Turned) (lv bd : List ℕ) → m ≡ Stop → turn_of m lv bd ≡ stop
+unfolding turn_of
+stopped m lv bd e = rw e refl
+
+-- A turn over words is the turn at the place that they and the state make.
+pub went_as : (s : State) (lv bd : List ℕ) → turn_of (Next s) lv bd ≡ turn_as (Next s) (spec_place_of s lv bd)
+unfolding turn_of turn_as
+went_as s lv bd = refl
+
+pub split_as : (s : State) (lv bd : List ℕ) → turn_of (Split s) lv bd ≡ turn_as (Split s) (spec_place_of s lv bd)
+unfolding turn_of turn_as
+split_as s lv bd = refl
+
+pub went_next : (s : State) (lv bd : List ℕ) {ls env : List Run}
     → levels_of (spec_place_of s lv bd) ≡ ls → entries_of (spec_place_of s lv bd) ≡ env → turn_of (Next s) lv bd ≡ next ls env
 unfolding turn_of
-went s lv bd p q = ap₂ next p q
+went_next s lv bd p q = ap₂ next p q
 
 -- k terms are passed, or given to the next entry.
 module _ (s g : State) (lv : List ℕ) (k : ℕ) where
-  pub passed : (bd : List ℕ) → g ≡ record { start = s.start + k; len = s.len - k; depth = s.depth; bound = s.bound }
+  pub passed_next : (bd : List ℕ) → g ≡ record { start = s.start + k; len = s.len - k; depth = s.depth; bound = s.bound }
       → turn_of (Next g) lv bd ≡ next (back_of k (record { start = s.start; len = s.len }) ∷ stack_of s.depth lv) (entries_in s.bound bd)
-  passed bd p = went g lv bd (ap (λ z. levels_of (spec_place_of z lv bd)) p) (ap (λ z. entries_of (spec_place_of z lv bd)) p)
+  passed_next bd p = went_next g lv bd (ap (λ z. levels_of (spec_place_of z lv bd)) p) (ap (λ z. entries_of (spec_place_of z lv bd)) p)
 
-  pub gave : (bd after : List ℕ) → g ≡ record { start = s.start + k; len = s.len - k; depth = s.depth; bound = s.bound + 1 }
+  pub gave_next : (bd after : List ℕ) → g ≡ record { start = s.start + k; len = s.len - k; depth = s.depth; bound = s.bound + 1 }
       → entries_in (s.bound + 1) after ≡ entries_in s.bound bd ++ (record { start = s.start; len = k } ∷ [])
       → turn_of (Next g) lv after
       ≡ next (back_of k (record { start = s.start; len = s.len }) ∷ stack_of s.depth lv)
       (entries_in s.bound bd ++ (record { start = s.start; len = k } ∷ []))
-  gave bd after p q = went g lv after (ap (λ z. levels_of (spec_place_of z lv after)) p) (ap (λ z. entries_of (spec_place_of z lv after)) p ∙ q)
+  gave_next bd after p q = went_next g lv after (ap (λ z. levels_of (spec_place_of z lv after)) p) (ap (λ z. entries_of (spec_place_of z lv after)) p ∙ q)
+
+-- The same for a turn that is told to go on.
+pub went : (m : Turned) (s : State) (lv bd : List ℕ) {ls env : List Run} → m ≡ Next s
+    → levels_of (spec_place_of s lv bd) ≡ ls → entries_of (spec_place_of s lv bd) ≡ env → turn_of m lv bd ≡ next ls env
+went m s lv bd e p q = rw e (went_next s lv bd p q)
+
+module _ (m : Turned) (s g : State) (lv : List ℕ) (k : ℕ) (e : m ≡ Next g) where
+  pub passed : (bd : List ℕ) → g ≡ record { start = s.start + k; len = s.len - k; depth = s.depth; bound = s.bound }
+      → turn_of m lv bd ≡ next (back_of k (record { start = s.start; len = s.len }) ∷ stack_of s.depth lv) (entries_in s.bound bd)
+  passed bd p = rw e (passed_next s g lv k bd p)
+
+  pub gave : (bd after : List ℕ) → g ≡ record { start = s.start + k; len = s.len - k; depth = s.depth; bound = s.bound + 1 }
+      → entries_in (s.bound + 1) after ≡ entries_in s.bound bd ++ (record { start = s.start; len = k } ∷ [])
+      → turn_of m lv after
+      ≡ next (back_of k (record { start = s.start; len = s.len }) ∷ stack_of s.depth lv)
+      (entries_in s.bound bd ++ (record { start = s.start; len = k } ∷ []))
+  gave bd after p q = rw e (gave_next s g lv k bd after p q)
 
 -- ---- entries ----
 
@@ -81,8 +111,12 @@ pub levels-same : (d : ℕ) (m : Turned) (lv : List ℕ) → LevelsKept d m lv l
 levels-same d m lv = record { back = restores-same d lv; same = λ n. refl }
 
 -- A turn that goes on after it wrote level d.
-pub levels_wrote : (d : ℕ) (s : State) (lv after : List ℕ) (a b : ℕ) → after ≡ set (set lv (2 * d) a) (2 * d + 1) b → LevelsKept d (Next s) lv after
-levels_wrote d s lv after a b q = record { back = rw q (restores-two d lv a b); same = λ n. absurd (n s refl) }
+pub wrote_next : (d : ℕ) (s : State) (lv after : List ℕ) (a b : ℕ) → after ≡ set (set lv (2 * d) a) (2 * d + 1) b → LevelsKept d (Next s) lv after
+wrote_next d s lv after a b q = record { back = rw q (restores-two d lv a b); same = λ n. absurd (n s refl) }
+
+pub levels_wrote : (d : ℕ) (m : Turned) (s : State) (lv after : List ℕ) (a b : ℕ) → m ≡ Next s
+    → after ≡ set (set lv (2 * d) a) (2 * d + 1) b → LevelsKept d m lv after
+levels_wrote d m s lv after a b e q = rw e (wrote_next d s lv after a b q)
 
 -- ---- literals ----
 
@@ -341,6 +375,20 @@ module _ (names : List ℕ) (t : Item) (x : ℕ) where
     pub turn_call : 8 ≤ t.kind → called ≡ turn_in names w used (coded names t x) last ls env
     unfolding turn
     turn_call l = rw (coded_call l) refl
+
+-- ---- a known e-variable that ends its level ----
+
+pub apart_never : {A : Type 0} → false ≡ true → A
+apart_never e = let x : ◌≡◌ {A = ℕ} 0 1 = cc in absurd (omega arith)
+
+pub ends-apart : (kind x : ℕ) (last : Bool) (bound len : ℕ) (w : List ℕ) (e : Run) → kind ≡ 7 → last ≡ true → x < bound → e ≡ get_or (entries_in bound w) x no_run
+    → eqb e.len len ≡ false → EndsApart kind x last bound len w
+ends-apart kind x last bound len w e m l k q n = record {
+  many = m;
+  ends = l;
+  known = k;
+  apart = λ z. let y : false ≡ true = sym n ∙ eq-eqb e.len len (ap (λ (r : Run). r.len) q ∙ z) in apart_never y;
+}
 
 -- ---- the end of a level ----
 

@@ -1,5 +1,5 @@
 -- One law of the step for each exit; what the walk asks is what the checks let pass and what settling left.
-use Rattle.std.proofs.Common.{ℕ, refl, ap, arith, rules}
+use Rattle.std.proofs.Common.{ℕ, refl, ap, arith}
 use Rattle.std.proofs.lemmas.List.{length-replicate}
 use Rattle.std.proofs.lemmas.Result.{err_from_is_err_and}
 use Rattle.words.specs.Refusals.{told_number, spec_number}

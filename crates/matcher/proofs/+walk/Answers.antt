@@ -6,9 +6,9 @@ use Rattle.term_spec.specs.Words.{write}
 use Rattle.term_spec.specs.Term.{run_layout}
 use Rattle.matcher.specs.declared.Status.TheVariants.{Going}
 use Rattle.matcher.specs.FoldLaws.{written_none, written_call, written_same}
-use Rattle.matcher.specs.WalkedLaws.{small_read, depth_room, ready_more, ready_hit, turn_stop, turn_call, stop_same, call_same, ready_next, next_walked, there, not_there}
-use Rattle.matcher.specs.SplitLaws.{splitting_start, split_inside, split_bound, split_known, split_slots, split_ready, splitting_done, given-kept}
-use Rattle.matcher.specs.SplitLaws.{splitting_stops, splitting_next}
+use Rattle.matcher.specs.WalkedLaws.{small_read, depth_room, ready_more, ready_hit, turn_stop, turn_call, stop_same, call_same, ready_next, next_restored, there, not_there}
+use Rattle.matcher.specs.SplitLaws.{splitting_found, split_inside, split_bound, split_known, split_slots, split_ready, splitting_done, given-kept}
+use Rattle.matcher.specs.SplitLaws.{splitting_stops, splitting_on}
 use Rattle.matcher.proofs.+walk.Goals as goal
 
 -- ---- exits before a turn ----
@@ -89,7 +89,7 @@ put-requires t c = (
 pub returns-in-Next : goal.returns-in-Next
 returns-in-Next t c =
     let e = c.put.ensures ∙ ap (λ r. write run_layout c.walk-got.new.levels c.args.s.depth (r ∷ [])) c.get-around.ensures in (
-      next_walked c.take_turn.ensures.0 c.in-Next.is (omega (arith, depth_room c.requires.ready.0, c.take_turn.auto.levels)) c.walk-got.ensures.0 e,
+      next_restored c.take_turn.ensures.0 c.in-Next.is (omega (arith, depth_room c.requires.ready.0, c.take_turn.auto.levels)) c.walk-got.ensures.0 e,
       c.walk-got.ensures.1,
     )
 
@@ -107,7 +107,7 @@ next_split-next-requires-clause-ready t c =
 
 pub loop-next-init : goal.loop-next-init
 loop-next-init t c = record {
-  splitting = splitting_start _ _ _ _ _ _ _ c.requires.open_slots.goes c.requires.open_slots.most c.next_split-next.ensures.0;
+  splitting = splitting_found _ _ _ _ _ _ _ c.requires.open_slots.goes c.requires.open_slots.most c.next_split-next.ensures.0;
   memory = c.next_split-next.ensures.1;
 }
 
@@ -173,7 +173,7 @@ loop-next-preserved t c =
     let o = rw c.in-Some.is at c.loop-next.invariant.splitting in
     let goes : c.walk-got-in-Some.result.stop ≡ Going = search (rules, tests) in
     record {
-      splitting = splitting_next c.requires.ready.0 c.take_turn.ensures.0 c.in-Split.is o.0 o.1 _ c.give-given.ensures.0 c.give-given.ensures.1
+      splitting = splitting_on c.requires.ready.0 c.take_turn.ensures.0 c.in-Split.is o.0 o.1 _ c.give-given.ensures.0 c.give-given.ensures.1
           c.walk-got-in-Some.ensures.0 _ goes (omega (arith, c.walk-got-in-Some.auto.binds, c.give-given.auto.binds)) c.walk-got-in-Some.auto.slots
           c.next_split-next-in-Some.ensures.0;
       memory = c.next_split-next-in-Some.ensures.1;

@@ -2,7 +2,7 @@
 use Rattle.std.proofs.Common.{◌≡◌, ◌≤◌, length, arith}
 use Rattle.match_spec.specs.Answer.{after_one}
 use Rattle.matcher.specs.Ready.{status_of, wanted_of, slot_words}
-use Rattle.matcher.specs.EmitLaws.{pasted, stop_head, stop_all, emit_full, emit_written}
+use Rattle.matcher.specs.EmitLaws.{pasted, stop_head, stop_all, emit_full, emit_copied}
 use Rattle.matcher.proofs.emit.Goals as goal
 use Rattle.matcher.proofs.emit.Goals.{then-g, else-g}
 
@@ -18,5 +18,5 @@ returns c =
       | then-g w ↦ stop_head w.stop-is w.if-g.true
       | else-g w ↦ stop_all w.stop-is w.if-g.false
     ] in
-    emit_written _ _ _ ready.goes c.if-g.stop a.binds.now ready.room long c.if-g-count.false
+    emit_copied _ _ _ ready.goes c.if-g.stop a.binds.now ready.room long c.if-g-count.false
     (pasted a.binds.now a.slots.now _ _ _ long c.copy_from_slice.ensures.after) stop

@@ -6,16 +6,16 @@ use Rattle.pattern.specs.BindingLaws.{texts_of}
 use Rattle.term_spec.specs.Words.{count}
 use Rattle.numbers.specs.NumbersLaws.{never}
 use Rattle.pattern.specs.NameLaws.{found_inside, found_outside}
-use Rattle.pattern.specs.NumberLaws.{Here, numbering_start, item_text, names_all, numbers_all, plain, too_many, known, met}
+use Rattle.pattern.specs.NumberLaws.{AtRecord, numbered_start, item_text, numbered_names, numbered_all, numbered_plain, numbered_many, numbered_known, numbered_met}
 use Rattle.pattern.proofs.number_names.Goals.{then-is_none, else-is_none}
 use Rattle.pattern.proofs.number_names.Goals as goal
 
 pub loop-i-init : goal.loop-i-init
-loop-i-init c = rw c.new-firsts.ensures (numbering_start _ _ _ _ c.requires.room.1)
+loop-i-init c = rw c.new-firsts.ensures (numbered_start _ _ _ _ c.requires.room.1)
 
 pub loop-i-preserved-then-not-is_variable : goal.loop-i-preserved-then-not-is_variable
 loop-i-preserved-then-not-is_variable c =
-    plain
+    numbered_plain
     (record {
       now = c.loop-i.invariant;
       more = c.loop-i-test.true;
@@ -39,7 +39,7 @@ pub returns-then-at-ge-NAME_LIMIT : goal.returns-then-at-ge-NAME_LIMIT
 unfolding count
 returns-then-at-ge-NAME_LIMIT c =
     let given = c.args in
-    let here : Here given.names.now given.pattern.now given.bindings.now c.loop-i.firsts.items c.loop-i.numbers c.loop-i.i (as_item c.get-t.result) true =
+    let here : AtRecord given.names.now given.pattern.now given.bindings.now c.loop-i.firsts.items c.loop-i.numbers c.loop-i.i (as_item c.get-t.result) true =
     record {
       now = c.loop-i.invariant;
       more = c.loop-i-test.true;
@@ -49,13 +49,13 @@ returns-then-at-ge-NAME_LIMIT c =
     } in
     let found = rw c.as_slice.ensures.value at c.find_name-found.ensures in
     let placed = rw c.len.ensures.value at c.unwrap_or-at.ensures in
-    record { counted = too_many here (placed ∙ found.0) c.if-at-ge-NAME_LIMIT.true; few = tt; numbers = λ some. never some refl }
+    record { counted = numbered_many here (placed ∙ found.0) c.if-at-ge-NAME_LIMIT.true; few = tt; numbers = λ some. never some refl }
 
 pub loop-i-preserved : goal.loop-i-preserved
 unfolding count
 loop-i-preserved c =
     let given = c.args in
-    let here : Here given.names.now given.pattern.now given.bindings.now c.loop-i.firsts.items c.loop-i.numbers c.loop-i.i (as_item c.get-t.result) true =
+    let here : AtRecord given.names.now given.pattern.now given.bindings.now c.loop-i.firsts.items c.loop-i.numbers c.loop-i.i (as_item c.get-t.result) true =
     record {
       now = c.loop-i.invariant;
       more = c.loop-i-test.true;
@@ -69,11 +69,11 @@ loop-i-preserved c =
     elim c.if-is_none.branch [
       | then-is_none w ↦
           let new = found_outside (bindings_in given.bindings.now + length c.loop-i.firsts.items) _ (c.is_none.ensures ∙ ap not w.if-is_none.true) in
-          met here (placed ∙ found.0) c.set_word-in-loop-i.ensures within c.if-at-ge-NAME_LIMIT.false (omega (arith, placed, new))
+          numbered_met here (placed ∙ found.0) c.set_word-in-loop-i.ensures within c.if-at-ge-NAME_LIMIT.false (omega (arith, placed, new))
           (rw w.firsts-is w.push.ensures.items)
       | else-is_none w ↦
           let old = found_inside _ _ _ _ found (c.is_none.ensures ∙ ap not w.if-is_none.false) in
-          rw w.firsts-is (known here (placed ∙ found.0) c.set_word-in-loop-i.ensures (omega (arith, placed, old)))
+          rw w.firsts-is (numbered_known here (placed ∙ found.0) c.set_word-in-loop-i.ensures (omega (arith, placed, old)))
     ]
 
 pub returns : goal.returns
@@ -81,7 +81,7 @@ returns c =
     let ended = c.loop-i-test.false in
     rw c.len-2.ensures.value
     (record {
-      counted = names_all c.loop-i.invariant ended;
+      counted = numbered_names c.loop-i.invariant ended;
       few = c.loop-i.invariant.few;
-      numbers = λ _. numbers_all c.loop-i.invariant ended;
+      numbers = λ _. numbered_all c.loop-i.invariant ended;
     })

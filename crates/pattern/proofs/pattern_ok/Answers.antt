@@ -3,26 +3,26 @@ use Rattle.std.proofs.Common.{◌≡◌, List, [], ◌∷◌, ℕ, ◌<◌, leng
 use borrow.Author.Tests.{eqb-false}
 use Rattle.items.specs.Records.{as_item}
 use Rattle.numbers.specs.NumbersLaws.{never}
-use Rattle.pattern.specs.PatternLaws.{Good, reading_start, all_read, bad_item, too_deep, opens, other, unopened, uncloses, closes}
+use Rattle.pattern.specs.PatternLaws.{Nested, nesting_start, nesting_all, nesting_bad, nesting_deep, nesting_opens, nesting_other, nesting_unopened, nesting_uncloses, nesting_closes}
 use Rattle.pattern.proofs.pattern_ok.Goals.{then-t-eq-OPEN+else-is_full, else-t-eq-OPEN+then-t-eq-CLOSE+in-Some+else-not-closes, else-t-eq-OPEN+else-t-eq-CLOSE}
 use Rattle.pattern.proofs.pattern_ok.Goals as goal
 
 pub loop-i-init : goal.loop-i-init
-loop-i-init c = rw c.new-opened.ensures (reading_start _ _)
+loop-i-init c = rw c.new-opened.ensures (nesting_start _ _)
 
 pub returns-then-not-item_ok : goal.returns-then-not-item_ok
-returns-then-not-item_ok c = bad_item c.loop-i.invariant c.loop-i-test.true c.get-t.ensures (sym c.item_ok.ensures ∙ c.if-not-item_ok.true)
+returns-then-not-item_ok c = nesting_bad c.loop-i.invariant c.loop-i-test.true c.get-t.ensures (sym c.item_ok.ensures ∙ c.if-not-item_ok.true)
 
 pub returns-then-is_full : goal.returns-then-is_full
 returns-then-is_full c =
-    let good : Good c.args.names.now c.args.pattern.now c.loop-i.opened.items c.loop-i.i (as_item c.get-t.result) =
+    let good : Nested c.args.names.now c.args.pattern.now c.loop-i.opened.items c.loop-i.i (as_item c.get-t.result) =
     record {
       now = c.loop-i.invariant;
       more = c.loop-i-test.true;
       read = c.get-t.ensures;
       rule = sym c.item_ok.ensures ∙ c.if-not-item_ok.false;
     } in
-    too_deep good c.if-t-eq-OPEN.true (omega (arith, eqb-true _ _ (sym c.is_full.ensures.value ∙ c.if-is_full.true)))
+    nesting_deep good c.if-t-eq-OPEN.true (omega (arith, eqb-true _ _ (sym c.is_full.ensures.value ∙ c.if-is_full.true)))
 
 -- a list that is not longer than none
 none : (l : List ℕ) → (0 < length l → ⊥) → l ≡ []
@@ -31,7 +31,7 @@ none (o ∷ l) h = absurd (h (omega arith))
 
 pub returns-in_default : goal.returns-in_default
 returns-in_default c =
-    let good : Good c.args.names.now c.args.pattern.now c.loop-i.opened.items c.loop-i.i (as_item c.get-t.result) =
+    let good : Nested c.args.names.now c.args.pattern.now c.loop-i.opened.items c.loop-i.i (as_item c.get-t.result) =
     record {
       now = c.loop-i.invariant;
       more = c.loop-i-test.true;
@@ -39,22 +39,22 @@ returns-in_default c =
       rule = sym c.item_ok.ensures ∙ c.if-not-item_ok.false;
     } in
     let variant = rw c.in_default.is at c.pop.ensures.variant in
-    unopened good c.if-t-eq-CLOSE.true (none _ (λ more. never (variant.1 more) refl))
+    nesting_unopened good c.if-t-eq-CLOSE.true (none _ (λ more. never (variant.1 more) refl))
 
 pub returns-then-not-closes : goal.returns-then-not-closes
 returns-then-not-closes c =
-    let good : Good c.args.names.now c.args.pattern.now c.loop-i.opened.items c.loop-i.i (as_item c.get-t.result) =
+    let good : Nested c.args.names.now c.args.pattern.now c.loop-i.opened.items c.loop-i.i (as_item c.get-t.result) =
     record {
       now = c.loop-i.invariant;
       more = c.loop-i-test.true;
       read = c.get-t.ensures;
       rule = sym c.item_ok.ensures ∙ c.if-not-item_ok.false;
     } in
-    uncloses good c.if-t-eq-CLOSE.true _ _ (rw c.in-Some.is at c.pop.ensures.items) c.closes.ensures c.if-not-closes.true
+    nesting_uncloses good c.if-t-eq-CLOSE.true _ _ (rw c.in-Some.is at c.pop.ensures.items) c.closes.ensures c.if-not-closes.true
 
 pub loop-i-preserved : goal.loop-i-preserved
 loop-i-preserved c =
-    let good : Good c.args.names.now c.args.pattern.now c.loop-i.opened.items c.loop-i.i (as_item c.get-t.result) =
+    let good : Nested c.args.names.now c.args.pattern.now c.loop-i.opened.items c.loop-i.i (as_item c.get-t.result) =
     record {
       now = c.loop-i.invariant;
       more = c.loop-i-test.true;
@@ -64,11 +64,11 @@ loop-i-preserved c =
     elim c.if-t-eq-OPEN.branch [
       | then-t-eq-OPEN+else-is_full w ↦
           let room = eqb-false _ _ (sym w.is_full.ensures.value ∙ w.if-is_full.false) in
-          opens good w.if-t-eq-OPEN.true (omega (arith, w.is_full.ensures.fits, room)) (rw w.opened-is w.push.ensures.items)
+          nesting_opens good w.if-t-eq-OPEN.true (omega (arith, w.is_full.ensures.fits, room)) (rw w.opened-is w.push.ensures.items)
       | else-t-eq-OPEN+then-t-eq-CLOSE+in-Some+else-not-closes w ↦
-          rw w.opened-is (closes good w.if-t-eq-CLOSE.true _ _ (rw w.in-Some.is at w.pop.ensures.items) w.closes.ensures w.if-not-closes.false)
-      | else-t-eq-OPEN+else-t-eq-CLOSE w ↦ rw w.opened-is (other good w.if-t-eq-OPEN.false w.if-t-eq-CLOSE.false)
+          rw w.opened-is (nesting_closes good w.if-t-eq-CLOSE.true _ _ (rw w.in-Some.is at w.pop.ensures.items) w.closes.ensures w.if-not-closes.false)
+      | else-t-eq-OPEN+else-t-eq-CLOSE w ↦ rw w.opened-is (nesting_other good w.if-t-eq-OPEN.false w.if-t-eq-CLOSE.false)
     ]
 
 pub returns : goal.returns
-returns c = c.is_empty.ensures ∙ all_read c.loop-i.invariant c.loop-i-test.false
+returns c = c.is_empty.ensures ∙ nesting_all c.loop-i.invariant c.loop-i-test.false

@@ -1,5 +1,5 @@
 -- `rigid::next_begin`: at the terms passed the run cannot begin.
-use Rattle.std.proofs.Common.{refl, arith}
+use Rattle.std.proofs.Common.{arith}
 use Rattle.term_spec.specs.Words.{record_at}
 use Rattle.term_spec.specs.Term.{term_layout}
 use Rattle.items.specs.Records.{as_item}

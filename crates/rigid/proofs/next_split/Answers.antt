@@ -1,6 +1,6 @@
 -- `rigid::next_split`: the splits passed over fail, those that `skip_apart` leaves out too, and the one found fits.
 use Rattle.std.proofs.Common.{◌∙◌, arith}
-use Rattle.rigid.specs.SplitLaws.{passed_apart, at_split, passed_start, passed-one, first_found, first_none}
+use Rattle.rigid.specs.SplitLaws.{passed_apart, at_split, passed_start, passed-one, first_found, first_past}
 use Rattle.rigid.proofs.next_split.Goals as goal
 
 pub loop-j-init : goal.loop-j-init
@@ -33,4 +33,4 @@ loop-j-preserved c =
     }
 
 pub returns : goal.returns
-returns c = let inv = c.loop-j.invariant in (first_none inv.passed (omega (arith, c.loop-j-test.false)), inv.memory)
+returns c = let inv = c.loop-j.invariant in (first_past inv.passed (omega (arith, c.loop-j-test.false)), inv.memory)

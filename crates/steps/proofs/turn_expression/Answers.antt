@@ -2,7 +2,7 @@
 use Rattle.std.proofs.Common.{refl, arith, ◌∙◌}
 use Rattle.term_spec.proofs.WordsLaws.{decode-length}
 use Rattle.steps.specs.State.{turn_of}
-use Rattle.steps.specs.StepLaws.{passed, gave, entry_in, many_last, many_split, many_long, many_differs, many_equals}
+use Rattle.steps.specs.StepLaws.{passed_next, gave_next, entry_in, many_last, many_split, many_long, many_differs, many_equals}
 use Rattle.steps.specs.ArrayLaws.{entries_less}
 use Rattle.steps.proofs.turn_expression.Goals as goal
 
@@ -10,7 +10,7 @@ pub returns-then-last : goal.returns-then-last
 returns-then-last c =
     let a = c.requires.ready in
     let g = c.give.ensures in (
-      λ lv. gave _ _ lv _ _ _ g.0 g.1 ∙ many_last _ _ _ _ _ _ _ a.0.inside c.if-last.true (rw decode-length c.if-s-x.true),
+      λ lv. gave_next _ _ lv _ _ _ g.0 g.1 ∙ many_last _ _ _ _ _ _ _ a.0.inside c.if-last.true (rw decode-length c.if-s-x.true),
       entries_less _ _ _ _ g.1,
       a.2,
     )
@@ -51,7 +51,7 @@ pub returns : goal.returns
 returns c =
     let a = c.requires.ready in
     let e = c.entry-e.ensures _ c.if-s-x.false in (
-      λ lv. passed _ _ lv _ _ c.pass.ensures
+      λ lv. passed_next _ _ lv _ _ c.pass.ensures
           ∙ many_equals _ _ _ _ _ _ _ a.0.inside _ _ (rw decode-length c.if-s-x.false) e (entry_in _ _ _ _ a.1 c.if-s-x.false e) c.if-s-e.false
           c.equal_runs.ensures.0 c.if-not-equal_runs.false,
       refl,

@@ -1,7 +1,7 @@
 -- `steps::turn_literal`: each exit is one law of literals.
 use Rattle.std.proofs.Common.{arith, ◌∙◌}
 use Rattle.steps.specs.State.{turn_of}
-use Rattle.steps.specs.StepLaws.{passed, literal_texts, literal_same, literal_none, literal_differs, literal_equals}
+use Rattle.steps.specs.StepLaws.{passed_next, literal_texts, literal_same, literal_none, literal_differs, literal_equals}
 use Rattle.steps.proofs.turn_literal.Goals as goal
 
 pub returns-then-s-eq0 : goal.returns-then-s-eq0
@@ -21,6 +21,6 @@ returns-then-not-symbol_matches c used x last lv bd inside =
 
 pub returns : goal.returns
 returns c used x last lv bd inside =
-    passed _ _ lv 1 bd c.pass.ensures
+    passed_next _ _ lv 1 bd c.pass.ensures
     ∙ literal_equals _ _ _ _ x last _ _ _ c.requires.rule.1 _ c.get-u.ensures inside c.if-s-eq0.false
     (literal_same _ _ _ _ c.symbol_matches.ensures c.literal.ensures) c.if-not-symbol_matches.false

@@ -2,7 +2,7 @@
 use Rattle.std.proofs.Common.{refl, arith, ◌∙◌}
 use Rattle.term_spec.proofs.WordsLaws.{decode-length}
 use Rattle.steps.specs.State.{turn_of}
-use Rattle.steps.specs.StepLaws.{passed, gave, entry_in, single_none, single_refused, single_new, single_differs, single_equals}
+use Rattle.steps.specs.StepLaws.{passed_next, gave_next, entry_in, single_none, single_refused, single_new, single_differs, single_equals}
 use Rattle.steps.specs.ArrayLaws.{entries_less}
 use Rattle.steps.proofs.turn_single.Goals as goal
 
@@ -28,7 +28,7 @@ returns-then-s-x c =
     let a = c.requires.ready in
     let v = c.requires.variable in
     let g = c.give.ensures in (
-      λ last lv. gave _ _ lv 1 _ _ g.0 g.1
+      λ last lv. gave_next _ _ lv 1 _ _ g.0 g.1
           ∙ single_new _ _ _ _ _ last _ _ _ v.0 v.1 _ c.get-u.ensures a.0.inside c.if-s-eq0.false
           c.variable_accepts.ensures c.if-not-variable_accepts.false (rw decode-length c.if-s-x.true),
       entries_less _ _ _ _ g.1,
@@ -58,7 +58,7 @@ returns c =
     let a = c.requires.ready in
     let v = c.requires.variable in
     let e = c.entry-e.ensures _ c.if-s-x.false in (
-      λ last lv. passed _ _ lv 1 _ c.pass.ensures
+      λ last lv. passed_next _ _ lv 1 _ c.pass.ensures
           ∙ single_equals _ _ _ _ _ last _ _ _ v.0 v.1 _ c.get-u.ensures a.0.inside c.if-s-eq0.false
           c.variable_accepts.ensures c.if-not-variable_accepts.false
           _ (rw decode-length c.if-s-x.false) e c.equal_runs.ensures.0 c.if-not-equal_runs.false,

@@ -1,6 +1,6 @@
 -- `start`: each turn copies the run of one binding.
 use Rattle.std.proofs.Common.{arith}
-use Rattle.listing.specs.StartLaws.{copied_none, copied_more, copied_all, small_bound}
+use Rattle.listing.specs.StartLaws.{copied_none, copied_next, copied_all, small_bound}
 use Rattle.listing.proofs.walks.start.Goals as goal
 
 pub loop-i-init : goal.loop-i-init
@@ -11,7 +11,7 @@ put-requires c =
     (omega (arith, c.loop-i.invariant.room, c.loop-i-test.true, c.requires.0), small_bound c.args.bindings.now _ _ (λ k. omega (arith, c.type_inv.bindings k)) c.get-b.ensures)
 
 pub loop-i-preserved : goal.loop-i-preserved
-loop-i-preserved c = rw c.put.ensures (copied_more _ _ _ c.loop-i.invariant c.loop-i-test.true c.requires.0 _ c.get-b.ensures)
+loop-i-preserved c = rw c.put.ensures (copied_next _ _ _ c.loop-i.invariant c.loop-i-test.true c.requires.0 _ c.get-b.ensures)
 
 pub returns : goal.returns
 returns c = copied_all _ _ _ c.loop-i.invariant c.loop-i-test.false
