@@ -221,10 +221,6 @@ impl Stores {
     }
 
     fn check_terms(&self) -> Given {
-        Given::from(value::check_terms(
-            self.names.lent(),
-            self.terms.lent(),
-            self.terms.used(),
-        ))
+        Given::from(value::check_terms(self.names.lent(), self.terms.lent(), self.terms.used()))
     }
 }

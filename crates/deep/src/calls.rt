@@ -53,12 +53,7 @@ fn shown(answer: Result<Flat, Refusal>, sum: usize) -> Answer {
 }
 
 // A match of one variable, whose run fills the two slots.
-fn matched(
-    answer: Result<Matched, Refusal>,
-    slots: [u32; 2],
-    used: usize,
-    sum: usize,
-) -> Answer {
+fn matched(answer: Result<Matched, Refusal>, slots: [u32; 2], used: usize, sum: usize) -> Answer {
     let [start, len] = slots.map(|slot| slot as usize);
     match answer {
         Ok(Matched::Listed { .. }) => Answer::new(Kind::Listed, [start, len, used, sum]),
