@@ -63,9 +63,20 @@ impl Chains {
         ensures { (self.new.heads ≡ set self.old.heads b (k + 1))
             × (self.new.earlier ≡ set self.old.earlier k (get_or self.old.heads b 0)) }
     {
-        self.earlier[k] = self.heads[b] as u16;
-        self.heads[b] = (k + 1) as u32;
+        enter(&mut self.heads, &mut self.earlier, b, k);
     }
+}
+
+// The same on the two tables: `heads` has for each bucket the place entered last, plus one, and `earlier` for each place the one entered before it,
+// plus one; 0 where there is none.
+pub fn enter(heads: &mut [u32], earlier: &mut [u16], b: usize, k: usize)
+    requires room { (b < length heads.old) × (k < length earlier.old) × (k < limit) }
+    requires low { get_or heads.old b 0 ≤ k }
+    ensures { (heads.new ≡ set heads.old b (k + 1))
+        × (earlier.new ≡ set earlier.old k (get_or heads.old b 0)) }
+{
+    earlier[k] = heads[b] as u16;
+    heads[b] = (k + 1) as u32;
 }
 
 // ---- keys ----
