@@ -28,14 +28,14 @@ impl Stores {
     pub fn build(&mut self, spine: Spine, last: usize) {
         let nodes = self.nodes.as_mut_slice();
         for i in 0..(last.min(LIMIT - 1) + 1).min(nodes.len() / NODE_WIDTH) {
-            words::put_node(nodes, i, spine.node(i));
+            words::put(nodes, i, spine.node(i));
         }
     }
 
     pub fn share(&mut self, brackets: Brackets, same: usize) {
         let terms = self.terms.as_mut_slice();
         for i in 0..SHARED.min(terms.len() / TERM_WIDTH) {
-            words::put_term(terms, i, brackets.term(same, i));
+            words::put(terms, i, brackets.term(same, i));
         }
     }
 }
