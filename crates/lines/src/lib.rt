@@ -1,15 +1,18 @@
 // Texts of lines and tokens, for the programs that read their cases, and the files and arguments that they come from.
 #![tactic(auto)]
 
-ghost use Rattle.std.specs.Prelude.{◌<◌, ◌≤◌, IfOk, length};
+ghost use Rattle.std.specs.Prelude.{◌≡◌, ◌<◌, ◌≤◌, IfOk, length, take};
 ghost use Rattle.std.specs.Iterator.{at_most};
+ghost use Rattle.lines.specs.Decimal.{decimal_of};
 
 use std::io::Read;
 use std::rt::{Env, Files};
 use std::{fs, io, str};
 
 // The first n items; all where there are fewer.
-pub fn first<T>(items: &[T], n: usize) -> &[T] {
+pub fn first<T>(items: &[T], n: usize) -> &[T]
+    ensures { result.now ≡ take n items.now }
+{
     items.get(..n).unwrap_or(items)
 }
 
@@ -20,7 +23,9 @@ pub struct Tokens<'a> {
 }
 
 impl<'a> Tokens<'a> {
-    pub fn new(line: &'a [u8]) -> Tokens<'a> {
+    pub fn new(line: &'a [u8]) -> Tokens<'a>
+        ensures { result.rest.now ≡ line.now }
+    {
         Tokens { rest: line }
     }
 }
@@ -69,7 +74,10 @@ fn token_length(text: &[u8]) -> usize
 const LARGEST: usize = 100_000_000_000;
 
 // A decimal number, if the text is one and not too large. An empty text is 0.
-pub fn decimal(text: &[u8]) -> Option<usize> {
+#[tactic(auto, using(crate::specs::Digits::digit_read, crate::specs::Digits::no_digit, crate::specs::Digits::too_large, crate::specs::Digits::all_read))]
+pub fn decimal(text: &[u8]) -> Option<usize>
+    ensures { result ≡ decimal_of text.now }
+{
     let mut number: usize = 0;
     for byte in text {
         if !byte.is_ascii_digit() || LARGEST < number {
@@ -81,7 +89,9 @@ pub fn decimal(text: &[u8]) -> Option<usize> {
 }
 
 // The bytes of argument i, at the start of the buffer; none where there is no such argument, or no room for it.
-pub fn arg<'a>(rt: &impl Env, i: usize, buffer: &'a mut [u8]) -> &'a [u8] {
+pub fn arg<'a>(rt: &impl Env, i: usize, buffer: &'a mut [u8]) -> &'a [u8]
+    ensures { length result.now ≤ length buffer.old }
+{
     match rt.arg(i, buffer) {
         Ok(n) => &buffer[..n],
         Err(_) => &[],
