@@ -4,6 +4,7 @@
 ghost use Rattle.std.specs.Prelude.{◌≡◌, true, false, ◌+◌, ◌<◌, ◌≤◌, length};
 ghost use Rattle.std.specs.List.{list_all};
 ghost use Rattle.term_spec.specs.Text.{spec_is_name_byte, spec_is_digit, is_zero, lower as lowered, text_rule};
+ghost use Rattle.text.specs.Kinds.{text_kind};
 ghost use Rattle.text.specs.Texts.{spelling, texts_equal, identifiers_equal, numbers_equal};
 
 // A letter, a digit, `-` or `_`.
@@ -29,31 +30,36 @@ fn all_digits(text: &[u8]) -> bool
     text.iter().all(|c| c.is_ascii_digit())
 }
 
-// The kind of text that is a variable's name; kinds of terms are those of the other texts.
-pub const NAME: usize = 3;
+// What a text spells: an identifier, a number, or a variable's name.
+#[derive(Clone, Copy, Debug, PartialEq, Eq)]
+pub enum TextKind {
+    Identifier,
+    Number,
+    Name,
+}
 
 // The most bytes of a text.
 const TEXT_LIMIT: usize = 255;
 
-// Whether a text spells what a record of this kind asks: an identifier, a number, else a variable's name.
+// Whether a text spells what its kind asks.
 #[tactic(auto, using(crate::specs::TextLaws::spellings), unfolding(term_spec::specs::Text::spec_is_letter))]
-fn spells(text: &[u8], kind: usize) -> bool
-    ensures { result ≡ spelling kind text.now }
+fn spells(text: &[u8], kind: TextKind) -> bool
+    ensures { result ≡ spelling (text_kind kind) text.now }
 {
     match kind {
-        words::IDENTIFIER => match text {
+        TextKind::Identifier => match text {
             [first, rest @ ..] => first.is_ascii_alphabetic() && all_name_bytes(rest),
             [] => false,
         },
-        words::NUMBER => all_digits(text),
-        _ => all_name_bytes(text),
+        TextKind::Number => all_digits(text),
+        TextKind::Name => all_name_bytes(text),
     }
 }
 
 // The rule of a text: 1 to 255 bytes of the names, spelled as its kind asks.
 #[tactic(auto, using(crate::specs::TextLaws::rule_tests))]
-pub fn text_ok(names: &[u8], kind: usize, o: usize, n: usize) -> bool
-    ensures { result ≡ text_rule (spelling kind) names.now o n }
+pub fn text_ok(names: &[u8], kind: TextKind, o: usize, n: usize) -> bool
+    ensures { result ≡ text_rule (spelling (text_kind kind)) names.now o n }
 {
     matches!(n, 1..=TEXT_LIMIT)
         && n <= names.len()

@@ -1,13 +1,17 @@
 // Records of words in lent slices, as structs by value: `get` and `put` for every kind of record. `word` and `set_word` alone see words and casts.
 #![tactic(auto)]
 
+pub mod kind;
 pub mod refusal;
 
-ghost use Rattle.std.specs.Prelude.{◌≡◌, refl, [], ◌∷◌, ℕ, ◌+◌, ◌*◌, ◌<◌, ◌≤◌, ◌^◌, length, get_or, set};
+ghost use Rattle.std.specs.Prelude.{◌≡◌, refl, [], ◌∷◌, ℕ, ◌+◌, ◌*◌, ◌<◌, ◌≤◌, ◌^◌, eqb, length, get_or, set};
 ghost use Rattle.term_spec.specs.Words.{Layout, Lies, record_at, write};
 ghost use Rattle.term_spec.specs.Term.{Term as SpecTerm, Run as SpecRun, term_layout, run_layout};
 ghost use Rattle.view_spec.specs.Node.{Node as SpecNode, node_layout};
+ghost use Rattle.words.specs.Kinds.{term_kind, node_kind};
 ghost use Rattle.words.specs.Records.{as_term, Small, as_node, SmallNode, as_run, SmallRun};
+
+use kind::{NodeKind, TermKind};
 
 // One term, its words widened.
 #[derive(Clone, Copy, Debug, PartialEq, Eq)]
@@ -28,6 +32,24 @@ pub struct Node {
     pub c: usize,
     pub height: usize,
     pub reach: usize,
+}
+
+impl Term {
+    // Whether it is of a kind.
+    pub fn is(self, kind: TermKind) -> bool
+        ensures { result ≡ eqb self.kind (term_kind kind) }
+    {
+        self.kind == kind.number()
+    }
+}
+
+impl Node {
+    // Whether it is of a kind.
+    pub fn is(self, kind: NodeKind) -> bool
+        ensures { result ≡ eqb self.kind (node_kind kind) }
+    {
+        self.kind == kind.number()
+    }
 }
 
 // A run of terms: its start and its length, widened.
