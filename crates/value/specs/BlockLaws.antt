@@ -80,6 +80,8 @@ pub deepened-more : (table : List ℕ) (k : ℕ) {d : ℕ} → get_or table k 0 
 unfolding deepened
 deepened-more table k {d} h = let z : max (get_or table k 0) d ≡ d = omega arith in rw z refl
 
+pub ruleset deepened_one = (deepened_none, deepened-more)
+
 filled_none : (w : List ℕ) (m n : ℕ) → Filled w m 0 (replicate n 0)
 unfolding Filled
 filled_none w m n k = let z : min m (0 - k * m) ≡ 0 = omega arith in zeros-at n k ∙ rw z (deepest_none w (k * m))

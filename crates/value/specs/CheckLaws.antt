@@ -10,7 +10,7 @@ use Rattle.term_spec.specs.Words.{decode, record_at, count, whole}
 use Rattle.term_spec.proofs.WordsLaws.{decode-at, decode-length, decode-part, decode-snoc}
 use Rattle.term_spec.specs.Text.{text_rule}
 use Rattle.term_spec.specs.Refusal.{uneven, bad_term}
-use Rattle.term_spec.specs.Term.{Term, no_term, term_layout, char_kind, number_kind, bracket_kind, unknown_kind, expression_unknown, limit, depth_limit}
+use Rattle.term_spec.specs.Term.{Term, no_term, term_layout, char_kind, identifier_kind, number_kind, bracket_kind, unknown_kind, expression_unknown, limit, depth_limit}
 use Rattle.term_spec.specs.Term.{is_scalar, depth_k, deepest, bracket_rule, symbol_rule, term_rule_k, upper_rule, term_rule, terms_rule}
 use Rattle.text.specs.Texts.{spelling}
 use Rattle.value.specs.Check.{run_of, unless, terms_counts, terms_number}
@@ -48,6 +48,11 @@ module _ (w : List ℕ) (i : ℕ) (t : Term) where
     pub bracket_exact : t.c ≡ suc d → leb t.c depth_limit ≡ bracket_rule (decode term_layout i w) t
     bracket_exact n = sym (bracket_within (eq-eqb _ _ n))
 
+  pub bracket_flat : t.c ≡ 0 → t.a + t.b ≤ i → false ≡ bracket_rule (decode term_layout i w) t
+  bracket_flat e h = bracket_wrong h refl (λ q. omega arith)
+
+pub ruleset bracket_tests = (bracket_out, bracket_flat, bracket_wrong, bracket_exact)
+
 -- ---- a symbol and a term, by kind ----
 
 module _ (names : List ℕ) where
@@ -71,6 +76,24 @@ module _ (names : List ℕ) where
   symbol_none (suc zero) a b c h = absurd (omega arith)
   symbol_none (suc (suc zero)) a b c h = absurd (omega arith)
   symbol_none (suc (suc (suc k))) a b c h = refl
+
+  -- each kind by its name, as a test by cases has it
+  pub symbol_is_char : {k : ℕ} (a b c : ℕ) → char_kind ≡ k → symbol_rule k names a b c ≡ is_scalar a && eqb b 0 && eqb c 0
+  unfolding symbol_rule
+  symbol_is_char a b c e = rw (sym e) refl
+
+  pub symbol_is_identifier : {k : ℕ} (a b c : ℕ) → identifier_kind ≡ k → symbol_rule k names a b c ≡ text_rule (spelling identifier_kind) names a b && eqb c 0
+  unfolding symbol_rule text_rule spelling
+  symbol_is_identifier a b c e = rw (sym e) refl
+
+  pub symbol_is_number : {k : ℕ} (a b c : ℕ) → number_kind ≡ k → symbol_rule k names a b c ≡ text_rule (spelling number_kind) names a b && eqb c 0
+  unfolding symbol_rule text_rule spelling
+  symbol_is_number a b c e = rw (sym e) refl
+
+  pub symbol_is_none : {k : ℕ} (a b c : ℕ) → number_kind < k → symbol_rule k names a b c ≡ false
+  symbol_is_none a b c h = symbol_none _ a b c h
+
+pub ruleset symbol_kinds = (symbol_is_char, symbol_is_identifier, symbol_is_number, symbol_is_none)
 
 pub upper_unknown : (t : Term) → t.kind ≡ unknown_kind → true ≡ upper_rule t
 upper_unknown t e = rw (eq-eqb t.kind unknown_kind e) refl
@@ -119,6 +142,26 @@ module _ (names : List ℕ) (below : List Term) where
     pub term_none : unknown_kind < t.kind → false ≡ term_rule names below t
     unfolding term_rule
     term_none h = rw u (sym (others t.kind t h))
+
+  -- each kind by its name, as a test by cases has it
+  pub term_is_uneven : (t : Term) → upper_rule t ≡ false → term_rule names below t ≡ false
+  term_is_uneven t e = sym (term_upper t {r = false} (sym e) refl)
+
+  module _ (t : Term) (good : upper_rule t ≡ true) where
+    pub term_is_bracket : bracket_kind ≡ t.kind → term_rule names below t ≡ bracket_rule below t
+    term_is_bracket e = sym (term_bracket t {r = true} (sym good) refl (sym e))
+
+    pub term_is_unknown : unknown_kind ≡ t.kind → term_rule names below t ≡ leb t.a expression_unknown
+    term_is_unknown e = sym (term_unknown t {r = true} (sym good) refl (sym e))
+
+    pub term_is_symbol : t.kind < bracket_kind → term_rule names below t ≡ symbol_rule t.kind names t.a t.b t.c
+    term_is_symbol h = sym (term_symbol t {r = true} (sym good) refl h)
+
+    -- a kind that no term has is no symbol's either
+    pub term_is_none : unknown_kind < t.kind → term_rule names below t ≡ symbol_rule t.kind names t.a t.b t.c
+    term_is_none h = sym (term_none t {r = true} (sym good) refl h) ∙ sym (symbol_none names t.kind t.a t.b t.c (omega arith))
+
+pub ruleset term_kinds = (term_is_uneven, term_is_bracket, term_is_unknown, term_is_symbol, term_is_none)
 
 -- ---- the terms of a store, from term i on ----
 

@@ -12,7 +12,9 @@ ghost use Rattle.value.specs.Check.{run_of, terms_number};
 ghost use Rattle.value.specs.Blocks.{spec_low_block, spec_high_block, Covers, Blocks, deepened, Tables};
 ghost use Rattle.value.specs.Equal.{Texts, spec_equal_symbols};
 
+use text::TextKind;
 use words::Term;
+use words::kind::TermKind;
 use words::refusal::Refusal;
 
 // ---- the rules of a term store ----
@@ -24,57 +26,33 @@ const AFTER_SURROGATES: usize = 0xE000;
 
 const LAST_SCALAR: usize = 0x10FFFF;
 
+#[tactic(auto, using(std::proofs::lemmas::Bool::Decides::nat_tests), unfolding(term_spec::specs::Term::is_scalar))]
 fn is_scalar(c: usize) -> bool
     ensures { result ≡ is_scalar c }
 {
-    if c < SURROGATES {
-        return true;
-    }
-    if c < AFTER_SURROGATES {
-        return false;
-    }
-    c <= LAST_SCALAR
+    c < SURROGATES || AFTER_SURROGATES <= c && c <= LAST_SCALAR
 }
 
 // The rule of a literal symbol: Char, Identifier or Number.
+#[tactic(auto, using(crate::specs::CheckLaws::symbol_kinds))]
 pub fn symbol_ok(names: &[u8], t: Term) -> bool
     ensures { result ≡ symbol_rule t.kind names.now t.a t.b t.c }
 {
-    if t.kind == words::CHAR {
-        if !is_scalar(t.a) {
-            return false;
-        }
-        if t.b != 0 {
-            return false;
-        }
-        return t.c == 0;
+    match TermKind::try_from(t.kind) {
+        Ok(TermKind::Char) => is_scalar(t.a) && t.b == 0 && t.c == 0,
+        Ok(TermKind::Identifier) => text::text_ok(names, TextKind::Identifier, t.a, t.b)
+            && t.c == 0,
+        Ok(TermKind::Number) => text::text_ok(names, TextKind::Number, t.a, t.b) && t.c == 0,
+        _ => false,
     }
-    if words::NUMBER < t.kind {
-        return false;
-    }
-    if !text::text_ok(names, t.kind, t.a, t.b) {
-        return false;
-    }
-    t.c == 0
 }
 
 // A term's own depth: a bracket's is its c, no other term has one.
+#[tactic(auto, using(crate::specs::CheckLaws::depth_bracket, crate::specs::CheckLaws::depth_other))]
 fn depth_of(t: Term) -> usize
     ensures { result ≡ depth_k t.kind (as_term t) }
 {
-    if t.kind == words::BRACKET {
-        return t.c;
-    }
-    0
-}
-
-fn larger(a: usize, b: usize) -> usize
-    ensures { result ≡ max a b }
-{
-    if a < b {
-        return b;
-    }
-    a
+    if t.is(TermKind::Bracket) { t.c } else { 0 }
 }
 
 // Tables have the deepest bracket of each block of terms, so that a bracket's contents are not read term by term: `low` has it for
@@ -83,33 +61,28 @@ const LOW_BLOCK: usize = 32;
 
 const HIGH_BLOCK: usize = 1024;
 
-fn wide(x: u8) -> usize
-    ensures { result ≡ x }
-{
-    x as usize
-}
-
 // Entry k of a table becomes d where d is deeper.
+#[tactic(auto, using(crate::specs::BlockLaws::deepened_one))]
 fn deepen(table: &mut [u8], k: usize, d: usize)
     requires { (k < length table.old) × (d ≤ depth_limit) }
     ensures { table.new ≡ deepened table.old k d }
 {
-    if wide(table[k]) < d {
+    if usize::from(table[k]) < d {
         table[k] = d as u8;
     }
 }
 
 // Term i goes into the tables: its depth counts in its low and its high block. Only a bracket has one.
+#[tactic(auto, using(crate::specs::CheckLaws::depth_bracket, crate::specs::CheckLaws::depth_other, crate::specs::BlockLaws::deepened_none))]
 fn enter(low: &mut [u8], high: &mut [u8], i: usize, t: Term)
     requires { (i < length low.old * spec_low_block) × (i < length high.old * spec_high_block) × (depth_k t.kind (as_term t) ≤ depth_limit) }
     ensures low_block { low.new ≡ deepened low.old (i / spec_low_block) (depth_k t.kind (as_term t)) }
     ensures high_block { high.new ≡ deepened high.old (i / spec_high_block) (depth_k t.kind (as_term t)) }
 {
-    if t.kind != words::BRACKET {
-        return;
+    if t.is(TermKind::Bracket) {
+        deepen(low, i / LOW_BLOCK, t.c);
+        deepen(high, i / HIGH_BLOCK, t.c);
     }
-    deepen(low, i / LOW_BLOCK, t.c);
-    deepen(high, i / HIGH_BLOCK, t.c);
 }
 
 // The first terms of a run: how many, and their deepest bracket.
@@ -138,23 +111,18 @@ fn first_part(terms: &[u32], low: &[u8], high: &[u8], p: usize, n: usize) -> Par
     requires some { 0 < n }
     ensures { Covers terms.now p n result.len result.deep }
 {
-    if n < LOW_BLOCK {
-        return one_term(terms, p);
-    }
-    if p % LOW_BLOCK != 0 {
-        return one_term(terms, p);
-    }
-    if HIGH_BLOCK <= n {
-        if p % HIGH_BLOCK == 0 {
-            return Part {
-                len: HIGH_BLOCK,
-                deep: wide(high[p / HIGH_BLOCK]),
-            };
+    if n < LOW_BLOCK || p % LOW_BLOCK != 0 {
+        one_term(terms, p)
+    } else if HIGH_BLOCK <= n && p % HIGH_BLOCK == 0 {
+        Part {
+            len: HIGH_BLOCK,
+            deep: usize::from(high[p / HIGH_BLOCK]),
         }
-    }
-    Part {
-        len: LOW_BLOCK,
-        deep: wide(low[p / LOW_BLOCK]),
+    } else {
+        Part {
+            len: LOW_BLOCK,
+            deep: usize::from(low[p / LOW_BLOCK]),
+        }
     }
 }
 
@@ -168,7 +136,7 @@ fn deepest(terms: &[u32], low: &[u8], high: &[u8], s: usize, n: usize) -> usize
     let mut i = 0;
     while i < n {
         let part = first_part(terms, low, high, s + i, n - i);
-        deep = larger(deep, part.deep);
+        deep = deep.max(part.deep);
         i += part.len;
     }
     deep
@@ -178,55 +146,38 @@ fn deepest(terms: &[u32], low: &[u8], high: &[u8], s: usize, n: usize) -> usize
 const DEPTH_LIMIT: usize = 255;
 
 // The rule of a bracket with number i: contents below it, its exact depth.
+#[tactic(auto, using(crate::specs::CheckLaws::bracket_tests, crate::specs::BlockLaws::blocks_below))]
 fn bracket_ok(terms: &[u32], low: &[u8], high: &[u8], i: usize, t: Term) -> bool
     requires lies { Lies term_layout terms.now i }
     requires blocks { Blocks terms.now i low.now high.now }
     ensures { result ≡ bracket_rule (decode term_layout i terms.now) (as_term t) }
 {
-    if i < t.b {
+    if i < t.b || i - t.b < t.a || t.c == 0 {
         return false;
     }
-    if i - t.b < t.a {
-        return false;
-    }
-    if t.c < 1 {
-        return false;
-    }
-    if t.c - 1 != deepest(terms, low, high, t.a, t.b) {
-        return false;
-    }
-    t.c <= DEPTH_LIMIT
+    t.c - 1 == deepest(terms, low, high, t.a, t.b) && t.c <= DEPTH_LIMIT
 }
 
 // The fifth word: the upper half of an unknown's level, 0 of any other term.
 fn upper_ok(t: Term) -> bool
     ensures { result ≡ upper_rule (as_term t) }
 {
-    if t.kind != words::UNKNOWN {
-        return t.d == 0;
-    }
-    true
+    t.is(TermKind::Unknown) || t.d == 0
 }
 
 // The rule of a term with number i among those below it.
+#[tactic(auto, using(crate::specs::CheckLaws::term_kinds))]
 fn term_ok(names: &[u8], terms: &[u32], low: &[u8], high: &[u8], i: usize, t: Term) -> bool
     requires lies { Lies term_layout terms.now i }
     requires blocks { Blocks terms.now i low.now high.now }
     ensures { result ≡ term_rule names.now (decode term_layout i terms.now) (as_term t) }
 {
-    if !upper_ok(t) {
-        return false;
-    }
-    if t.kind < words::BRACKET {
-        return symbol_ok(names, t);
-    }
-    if t.kind == words::BRACKET {
-        return bracket_ok(terms, low, high, i, t);
-    }
-    if t.kind == words::UNKNOWN {
-        return t.a <= words::EXPRESSION;
-    }
-    false
+    upper_ok(t)
+        && match TermKind::try_from(t.kind) {
+            Ok(TermKind::Bracket) => bracket_ok(terms, low, high, i, t),
+            Ok(TermKind::Unknown) => t.a <= words::EXPRESSION,
+            _ => symbol_ok(names, t),
+        }
 }
 
 // The rule of the used terms. The tables are lent with no terms in them; each term that keeps its rule goes into them, so that they
@@ -237,14 +188,12 @@ fn all_ok(names: &[u8], terms: &[u32], used: usize, low: &mut [u8], high: &mut [
     requires tables { Tables terms.now 0 low.old high.old }
     ensures { result ≡ terms_rule names.now [] (decode term_layout used terms.now) }
 {
-    let mut i = 0;
-    while i < used {
+    for i in 0..used {
         let t = words::get::<Term>(terms, i);
         if !term_ok(names, terms, low, high, i, t) {
             return false;
         }
         enter(low, high, i, t);
-        i += 1;
     }
     true
 }
@@ -289,22 +238,23 @@ pub fn equal_symbols(names: &[u8], t: Term, u: Term) -> bool
     requires kinds { (t.kind ≡ u.kind) × (t.kind ≡ bracket_kind → ⊥) }
     ensures { result ≡ spec_equal_symbols names.now (as_term t) (as_term u) }
 {
-    match t.kind {
-        words::CHAR => t.a == u.a,
-        words::IDENTIFIER => text::same_identifiers(&names[t.a..t.a + t.b], &names[u.a..u.a + u.b]),
-        words::NUMBER => text::same_numbers(&names[t.a..t.a + t.b], &names[u.a..u.a + u.b]),
-        _ => t.a == u.a && t.b == u.b && t.c == u.c && t.d == u.d,
+    match TermKind::try_from(t.kind) {
+        Ok(TermKind::Char) => t.a == u.a,
+        Ok(TermKind::Identifier) => text::same_identifiers(
+            &names[t.a..t.a + t.b],
+            &names[u.a..u.a + u.b],
+        ),
+        Ok(TermKind::Number) => text::same_numbers(&names[t.a..t.a + t.b], &names[u.a..u.a + u.b]),
+        _ => t == u,
     }
 }
 
 // Whether a literal of a pattern (kinds 0 to 2) and a term are equal. An unknown or a bracket is none.
+#[tactic(auto, using(crate::specs::EqualLaws::symbols_differ))]
 pub fn symbol_matches(names: &[u8], literal: Term, t: Term) -> bool
     requires texts { Texts names.now (as_term literal) (as_term t) }
     requires symbol { literal.kind < bracket_kind }
     ensures { result ≡ spec_equal_symbols names.now (as_term literal) (as_term t) }
 {
-    if literal.kind != t.kind {
-        return false;
-    }
-    equal_symbols(names, literal, t)
+    literal.kind == t.kind && equal_symbols(names, literal, t)
 }
