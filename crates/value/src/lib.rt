@@ -2,6 +2,8 @@
 // (`symbol_matches`); records and their rules are the port's. Equality of terms and runs is in crate equality.
 #![tactic(auto)]
 
+pub mod store;
+
 ghost use Rattle.std.specs.Prelude.{◌≡◌, [], ◌+◌, ◌*◌, ◌/◌, ◌<◌, ◌≤◌, max, length};
 ghost use Rattle.term_spec.specs.Words.{Lies, decode};
 ghost use Rattle.term_spec.specs.Term.{term_layout, bracket_kind, limit, depth_limit, is_scalar, depth_k, deepest as deepestOf};

@@ -6,7 +6,7 @@ pub mod refusal;
 
 ghost use Rattle.std.specs.Prelude.{◌≡◌, refl, [], ◌∷◌, ℕ, ◌+◌, ◌*◌, ◌<◌, ◌≤◌, ◌^◌, eqb, length, get_or, set};
 ghost use Rattle.term_spec.specs.Words.{Layout, Lies, record_at, write};
-ghost use Rattle.term_spec.specs.Term.{Term as SpecTerm, Run as SpecRun, term_layout, run_layout};
+ghost use Rattle.term_spec.specs.Term.{Term as SpecTerm, Run as SpecRun, term_layout, run_layout, contents_run};
 ghost use Rattle.view_spec.specs.Node.{Node as SpecNode, node_layout};
 ghost use Rattle.words.specs.Kinds.{term_kind, node_kind};
 ghost use Rattle.words.specs.Records.{as_term, Small, as_node, SmallNode, as_run, SmallRun};
@@ -40,6 +40,16 @@ impl Term {
         ensures { result ≡ eqb self.kind (term_kind kind) }
     {
         self.kind == kind.number()
+    }
+
+    // The run of a bracket's contents.
+    pub fn contents(self) -> Run
+        ensures { as_run result ≡ contents_run (as_term self) }
+    {
+        Run {
+            start: self.a,
+            len: self.b,
+        }
     }
 }
 

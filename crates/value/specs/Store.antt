@@ -1,0 +1,16 @@
+-- A store of the code, as the definitions take it.
+use Rattle.std.specs.Prelude.{Bool, ℕ, ◌+◌, ◌≤◌}
+use Rattle.term_spec.specs.Term.{Run}
+use Rattle.value.specs.Equal.{equal_at, spec_equal_runs}
+use Rattle.value.specs.declared.store.Store.{Store}
+
+-- Whether terms i and j of a store are equal, and whether two of its runs are.
+abbrev pub terms_equal : Store → ℕ → ℕ → Bool
+terms_equal s i j = equal_at s.names.now s.terms.now s.used i j
+
+abbrev pub runs_equal : Store → Run → Run → Bool
+runs_equal s r q = spec_equal_runs s.names.now s.terms.now s.used r.start r.len q.start q.len
+
+-- A run that ends within the used terms.
+abbrev pub Within : Store → Run → Type 0
+Within s r = r.start + r.len ≤ s.used
