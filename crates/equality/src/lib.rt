@@ -8,10 +8,13 @@ ghost use Rattle.value.specs.Equal.{TermStore, equal_at, spec_equal_runs};
 ghost use Rattle.equality.specs.Compare.{compared_runs, answer_of};
 ghost use Rattle.equality.specs.Within.{TermsIn, RunsIn, same_runs, Tells};
 ghost use Rattle.equality.specs.Memory.{Memory, Says};
+ghost use Rattle.equality.specs.Stores.{Remembers};
+ghost use Rattle.value.specs.Store.{Within, runs_equal};
 ghost use Rattle.words.specs.Records.{as_run};
 ghost use Rattle.term_spec.specs.Words.{Lies};
 ghost use Rattle.term_spec.specs.Term.{term_layout, limit};
 
+use value::store::Store;
 use words::refusal::Refusal;
 use words::{Run, Term};
 
@@ -115,7 +118,7 @@ fn equal_by_numbers(names: &[u8], terms: &[u32], used: usize, first: Run, second
     ensures { result ≡ same_runs names.now terms.now used (as_run first) (as_run second) }
 {
     let mut known = [0u16; words::LIMIT];
-    numbers::number_terms(names, terms, used, &mut known);
+    numbers::number_terms_of(names, terms, used, &mut known);
     numbers::equal_numbered(&known, first, second)
 }
 
@@ -181,7 +184,7 @@ fn equal_from_now_on(
         let store = terms.now in
         (result ≡ same_runs text store used (as_run first) (as_run second)) × Memory text store used known.new }
 {
-    numbers::number_terms(names, terms, used, known);
+    numbers::number_terms_of(names, terms, used, known);
     known[used] = NUMBERED as u16;
     numbers::equal_numbered(known, first, second)
 }
@@ -241,9 +244,27 @@ fn apart_at_sight(terms: &[u32], i: usize, j: usize) -> bool
     t.a != u.a
 }
 
+// Whether two runs are equal, term by term.
+pub fn equal_runs(store: &Store, first: Run, second: Run, known: &mut [u16]) -> bool
+    requires within { Within store.now (as_run first) × Within store.now (as_run second) }
+    requires memory { Remembers store.now known.old }
+    ensures { (result ≡ runs_equal store.now (as_run first) (as_run second)) × Remembers store.now known.new }
+{
+    equal_runs_of(
+        store.names,
+        store.terms,
+        store.used,
+        first.start,
+        first.len,
+        second.start,
+        second.len,
+        known,
+    )
+}
+
 // Whether the n terms from s on and the m terms from p on are equal, term by term. Most that differ do so at sight, which is cheaper to see than what
 // is kept.
-pub fn equal_runs(
+pub fn equal_runs_of(
     names: &[u8],
     terms: &[u32],
     used: usize,

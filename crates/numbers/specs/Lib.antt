@@ -1,6 +1,7 @@
 pub mod Digest
 pub mod Buckets
 pub mod Numbers
+pub mod Stores
 pub mod DigestLaws
 pub mod KeyLaws
 pub mod ChainLaws

@@ -12,8 +12,10 @@ ghost use Rattle.value.specs.Equal.{TermStore, equal_at, spec_equal_runs};
 ghost use Rattle.words.specs.Records.{as_term};
 ghost use Rattle.numbers.specs.Digest.{prime, stride, Marked};
 ghost use Rattle.numbers.specs.Buckets.{buckets, entry};
+ghost use Rattle.numbers.specs.Stores.{Numbered};
 ghost use Rattle.numbers.specs.Numbers.{Numbers, Same, Agree, Readable, key_of, symbol_key, term_key, Tables, Searched, Placed};
 
+use value::store::Store;
 use words::{Run, Term};
 
 // ---- buckets ----
@@ -297,7 +299,7 @@ fn find_equal(
 
 // A term's number, and what looking for it took in vain.
 #[derive(Clone, Copy)]
-struct Numbered {
+struct Number {
     number: usize,
     cost: usize,
 }
@@ -311,7 +313,7 @@ fn number_of(
     chains: &mut Chains,
     base: usize,
     k: usize,
-) -> Numbered
+) -> Number
     requires marked { (base < prime) × Marked base numbers.now marks.now k }
     requires tables { (used : ℕ) × ((k < used) × Tables base names.now terms.now used k numbers.now chains.old.heads chains.old.earlier) }
     ensures { let tables = Tables base names.now terms.now in
@@ -325,13 +327,13 @@ fn number_of(
     let b = bucket_of(names, numbers, marks, base, t);
     let found = find_equal(names, terms, numbers, chains, b, k);
     match found.place {
-        Some(c) => Numbered {
+        Some(c) => Number {
             number: c,
             cost: found.cost,
         },
         None => {
             chains.enter(b, k);
-            Numbered {
+            Number {
                 number: k,
                 cost: found.cost,
             }
@@ -404,7 +406,18 @@ const TRIES: usize = 8;
 const MOST: usize = 32 * words::LIMIT;
 
 // Every used term gets its number.
-pub fn number_terms(names: &[u8], terms: &[u32], used: usize, numbers: &mut [u16])
+pub fn number_terms(store: &Store, numbers: &mut [u16])
+    requires { store.now.used ≤ length numbers.old }
+    ensures { let used = store.now.used in
+        Numbered store.now used numbers.new
+        × (drop used numbers.new ≡ drop used numbers.old)
+        × (length numbers.new ≡ length numbers.old) }
+{
+    number_terms_of(store.names, store.terms, store.used, numbers);
+}
+
+// Every used term gets its number.
+pub fn number_terms_of(names: &[u8], terms: &[u32], used: usize, numbers: &mut [u16])
     requires { TermStore names.now terms.now used × (used ≤ limit) × (used ≤ length numbers.old) }
     ensures { Numbers names.now terms.now used used numbers.new
         × (drop used numbers.new ≡ drop used numbers.old)

@@ -3,7 +3,7 @@ use Rattle.std.proofs.Common.{sym, ◌∙◌, arith}
 use Rattle.value.specs.EqualLaws.{runs_lengths, runs-all, runs_none}
 use Rattle.equality.specs.Within.{RunsIn}
 use Rattle.equality.specs.TwoLaws.{firsts_inside, runs-apart}
-use Rattle.equality.proofs.equal_runs.Goals as goal
+use Rattle.equality.proofs.equal_runs_of.Goals as goal
 
 pub returns-then-n-m : goal.returns-then-n-m
 returns-then-n-m c = (runs_lengths _ _ _ _ _ _ _ c.requires.within.0 c.requires.within.1 c.if-n-m.true, c.requires.memory)

@@ -1,7 +1,7 @@
 -- What is past the used terms stays as it was.
 use Rattle.std.proofs.Common.{◌≡◌, ◌<◌, length, drop}
 use Rattle.numbers.specs.Digest.{prime}
-use Rattle.numbers.proofs.number_terms.Given as goal
+use Rattle.numbers.proofs.number_terms_of.Given as goal
 
 abbrev pub invariant-loop : goal.invariant-loop
 invariant-loop l = record {
