@@ -1,3 +1,4 @@
 pub mod Fit
+pub mod Stores
 pub mod FitLaws
 pub mod SplitLaws

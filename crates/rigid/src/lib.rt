@@ -8,12 +8,16 @@ ghost use Rattle.term_spec.specs.Term.{Run as SpecRun, term_layout};
 ghost use Rattle.match_spec.specs.Element.{Element};
 ghost use Rattle.match_spec.specs.Pattern.{item_rule_k, pattern_limit, close_kind, expression_variable_kind};
 ghost use Rattle.equality.specs.Memory.{Memory};
+ghost use Rattle.equality.specs.Stores.{Remembers};
+ghost use Rattle.value.specs.Store.{Within};
+ghost use Rattle.rigid.specs.Stores.{fits_split};
 ghost use Rattle.items.specs.Records.{as_item};
 ghost use Rattle.steps.specs.State.{left_of, back_of, RunReady, InStore, Known, PatternReady, coded};
 ghost use Rattle.rigid.specs.Fit.{fits_at, run_fits, split_fits, FitIn, fit_goes, opens_to, skips_to, fits_term, Apart, ApartAt, FirstOf};
 
 use items::Item;
 use steps::State;
+use steps::given::Given;
 use words::Term;
 
 // What a record of the run does: it does not fit, the run ends before it, it takes so many terms.
@@ -78,7 +82,7 @@ fn fit_record(
         if len < e.len {
             return Fit::No;
         }
-        if !equality::equal_runs(names, terms, used, e.start, e.len, start, e.len, known) {
+        if !equality::equal_runs_of(names, terms, used, e.start, e.len, start, e.len, known) {
             return Fit::No;
         }
         return Fit::Takes(e.len);
@@ -210,6 +214,32 @@ fn skip_apart(terms: &[u32], pattern: &[u32], p: usize, s: State, j: usize) -> u
 
 // The first split from k on, of those that give 0 to s.len terms to the e-variable, where the run from record p on fits.
 pub fn next_split(
+    given: &Given,
+    p: usize,
+    s: State,
+    binds: &[u32],
+    k: usize,
+    known: &mut [u16],
+) -> Option<usize>
+    requires ready { Within given.now.store (left_of s) × Known given.now.store.used s.bound binds.now × Remembers given.now.store known.old }
+    requires split { k ≤ s.len + 1 }
+    ensures { FirstOf (fits_split given.now p s.bound binds.now (left_of s)) k s.len result × Remembers given.now.store known.new }
+{
+    next_split_of(
+        given.store.names,
+        given.store.terms,
+        given.store.used,
+        given.pattern,
+        given.numbers,
+        p,
+        s,
+        binds,
+        k,
+        known,
+    )
+}
+
+pub fn next_split_of(
     names: &[u8],
     terms: &[u32],
     used: usize,

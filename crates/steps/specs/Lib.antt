@@ -1,5 +1,6 @@
 pub mod Turn
 pub mod State
+pub mod Stores
 pub mod Stays
 pub mod ArrayLaws
 pub mod CellLaws

@@ -9,6 +9,8 @@ ghost use Rattle.match_spec.specs.Pattern.{item_rule_k, nesting_limit, name_limi
 ghost use Rattle.match_spec.specs.Walk.{ends};
 ghost use Rattle.value.specs.Equal.{TermStore};
 ghost use Rattle.equality.specs.Memory.{Memory};
+ghost use Rattle.equality.specs.Stores.{Remembers};
+ghost use Rattle.steps.specs.Stores.{turn_in};
 ghost use Rattle.items.specs.Records.{as_item};
 ghost use Rattle.words.specs.Records.{as_run};
 ghost use Rattle.match_spec.specs.Element.{opening, closing, many};
@@ -16,7 +18,10 @@ ghost use Rattle.steps.specs.State.{passing, giving, left_of, front_of, spec_pla
 ghost use Rattle.steps.specs.State.{RunReady, InStore, InTerms, Known, Stands, LevelsKept, EndsApart, coded, pattern_in, Fine};
 
 use items::Item;
+use value::store::Store;
 use words::{Run, Term};
+
+pub mod given;
 
 // Where the walk stands: what is left of the innermost level, how many levels are around it, and how many entries are known. The runs of
 // these levels (the outermost first) and entries are in lent words, two to a run: nothing large goes by value.
@@ -182,7 +187,7 @@ fn turn_single(
         return Turned::Next(give(s, 1, binds));
     }
     let e = entry(binds, x);
-    if !equality::equal_runs(names, terms, used, e.start, e.len, s.start, 1, known) {
+    if !equality::equal_runs_of(names, terms, used, e.start, e.len, s.start, 1, known) {
         return Turned::Stop;
     }
     Turned::Next(pass(s, 1))
@@ -219,7 +224,7 @@ fn turn_expression(
     if s.len < e.len {
         return Turned::Stop;
     }
-    if !equality::equal_runs(names, terms, used, e.start, e.len, s.start, e.len, known) {
+    if !equality::equal_runs_of(names, terms, used, e.start, e.len, s.start, e.len, known) {
         return Turned::Stop;
     }
     Turned::Next(pass(s, e.len))
@@ -237,6 +242,38 @@ pub fn ends_apart(kind: usize, x: usize, last: bool, s: State, binds: &[u32]) ->
 // The turn of a record, x being the number of its name; `last` says whether its level ends after it. Of the levels it writes the place after
 // those around, and only where it goes on; of the entries the next one.
 pub fn turn(
+    store: &Store,
+    t: Item,
+    x: usize,
+    last: bool,
+    s: State,
+    levels: &mut [u32],
+    binds: &mut [u32],
+    known: &mut [u16],
+) -> Turned
+    requires stands { Stands store.now.used (spec_place_of s levels.old binds.old) × Remembers store.now known.old }
+    requires rule { T (item_rule_k t.kind store.now.names.now (as_item t)) × Fine t.kind x s.depth s.bound }
+    ensures { let element = coded store.now.names.now (as_item t) x in
+        (turn_of result levels.new binds.new ≡ turn_in store.now element last (spec_place_of s levels.old binds.old))
+        × LevelsKept s.depth result levels.old levels.new
+        × (entries_in s.bound binds.new ≡ entries_in s.bound binds.old)
+        × Remembers store.now known.new }
+{
+    turn_over(
+        store.names,
+        store.terms,
+        store.used,
+        t,
+        x,
+        last,
+        s,
+        levels,
+        binds,
+        known,
+    )
+}
+
+pub fn turn_over(
     names: &[u8],
     terms: &[u32],
     used: usize,

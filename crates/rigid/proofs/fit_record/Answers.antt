@@ -25,20 +25,20 @@ returns-then-len-e c =
       h.2,
     )
 
-pub equal_runs-requires-clause-within : goal.equal_runs-requires-clause-within
-equal_runs-requires-clause-within c =
+pub equal_runs_of-requires-clause-within : goal.equal_runs_of-requires-clause-within
+equal_runs_of-requires-clause-within c =
     let h = c.requires.ready in
     (entry_in _ _ _ _ h.1 c.if-bound-x.false (c.entry-e.ensures _ c.if-bound-x.false), omega (arith, h.0.inside))
 
-pub returns-then-not-equal_runs : goal.returns-then-not-equal_runs
-returns-then-not-equal_runs c =
+pub returns-then-not-equal_runs_of : goal.returns-then-not-equal_runs_of
+returns-then-not-equal_runs_of c =
     let a = c.args in
     let h = c.requires.ready in (
       tt,
       λ p. fit_differs _ _ _ _ _ a.bound a.binds.now _ p c.if-t-eq-E_VARIABLE.true
           _ c.if-bound-x.false (c.entry-e.ensures _ c.if-bound-x.false) h.1 h.0.inside c.if-len-e.false
-          c.equal_runs.ensures.0 c.if-not-equal_runs.true,
-      c.equal_runs.ensures.1,
+          c.equal_runs_of.ensures.0 c.if-not-equal_runs_of.true,
+      c.equal_runs_of.ensures.1,
     )
 
 pub returns-then-t-eq-E_VARIABLE : goal.returns-then-t-eq-E_VARIABLE
@@ -48,8 +48,8 @@ returns-then-t-eq-E_VARIABLE c =
       c.if-len-e.false,
       λ p. fit_equals _ _ _ _ _ a.bound a.binds.now _ p c.if-t-eq-E_VARIABLE.true
           _ c.if-bound-x.false (c.entry-e.ensures _ c.if-bound-x.false) h.1 h.0.inside c.if-len-e.false
-          c.equal_runs.ensures.0 c.if-not-equal_runs.false,
-      c.equal_runs.ensures.1,
+          c.equal_runs_of.ensures.0 c.if-not-equal_runs_of.false,
+      c.equal_runs_of.ensures.1,
     )
 
 pub returns-then-len-eq0 : goal.returns-then-len-eq0

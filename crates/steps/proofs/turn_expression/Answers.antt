@@ -31,20 +31,20 @@ returns-then-s-e c =
       a.2,
     )
 
-pub equal_runs-requires-clause-within : goal.equal_runs-requires-clause-within
-equal_runs-requires-clause-within c =
+pub equal_runs_of-requires-clause-within : goal.equal_runs_of-requires-clause-within
+equal_runs_of-requires-clause-within c =
     let a = c.requires.ready in
     (entry_in _ _ _ _ a.1 c.if-s-x.false (c.entry-e.ensures _ c.if-s-x.false), omega (arith, a.0.inside))
 
-pub returns-then-not-equal_runs : goal.returns-then-not-equal_runs
+pub returns-then-not-equal_runs_of : goal.returns-then-not-equal_runs_of
 unfolding turn_of
-returns-then-not-equal_runs c =
+returns-then-not-equal_runs_of c =
     let a = c.requires.ready in
     let e = c.entry-e.ensures _ c.if-s-x.false in (
       λ lv. many_differs _ _ _ _ _ _ _ a.0.inside _ _ (rw decode-length c.if-s-x.false) e (entry_in _ _ _ _ a.1 c.if-s-x.false e) c.if-s-e.false
-          c.equal_runs.ensures.0 c.if-not-equal_runs.true,
+          c.equal_runs_of.ensures.0 c.if-not-equal_runs_of.true,
       refl,
-      c.equal_runs.ensures.1,
+      c.equal_runs_of.ensures.1,
     )
 
 pub returns : goal.returns
@@ -53,7 +53,7 @@ returns c =
     let e = c.entry-e.ensures _ c.if-s-x.false in (
       λ lv. passed_next _ _ lv _ _ c.pass.ensures
           ∙ many_equals _ _ _ _ _ _ _ a.0.inside _ _ (rw decode-length c.if-s-x.false) e (entry_in _ _ _ _ a.1 c.if-s-x.false e) c.if-s-e.false
-          c.equal_runs.ensures.0 c.if-not-equal_runs.false,
+          c.equal_runs_of.ensures.0 c.if-not-equal_runs_of.false,
       refl,
-      c.equal_runs.ensures.1,
+      c.equal_runs_of.ensures.1,
     )

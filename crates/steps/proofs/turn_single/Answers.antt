@@ -35,22 +35,22 @@ returns-then-s-x c =
       a.2,
     )
 
-pub equal_runs-requires-clause-within : goal.equal_runs-requires-clause-within
-equal_runs-requires-clause-within c =
+pub equal_runs_of-requires-clause-within : goal.equal_runs_of-requires-clause-within
+equal_runs_of-requires-clause-within c =
     let a = c.requires.ready in
     (entry_in _ _ _ _ a.1 c.if-s-x.false (c.entry-e.ensures _ c.if-s-x.false), omega (arith, a.0.inside))
 
-pub returns-then-not-equal_runs : goal.returns-then-not-equal_runs
+pub returns-then-not-equal_runs_of : goal.returns-then-not-equal_runs_of
 unfolding turn_of
-returns-then-not-equal_runs c =
+returns-then-not-equal_runs_of c =
     let a = c.requires.ready in
     let v = c.requires.variable in
     let e = c.entry-e.ensures _ c.if-s-x.false in (
       λ last lv. single_differs _ _ _ _ _ last _ _ _ v.0 v.1 _ c.get-u.ensures a.0.inside c.if-s-eq0.false
           c.variable_accepts.ensures c.if-not-variable_accepts.false
-          _ (rw decode-length c.if-s-x.false) e c.equal_runs.ensures.0 c.if-not-equal_runs.true,
+          _ (rw decode-length c.if-s-x.false) e c.equal_runs_of.ensures.0 c.if-not-equal_runs_of.true,
       refl,
-      c.equal_runs.ensures.1,
+      c.equal_runs_of.ensures.1,
     )
 
 pub returns : goal.returns
@@ -61,7 +61,7 @@ returns c =
       λ last lv. passed_next _ _ lv 1 _ c.pass.ensures
           ∙ single_equals _ _ _ _ _ last _ _ _ v.0 v.1 _ c.get-u.ensures a.0.inside c.if-s-eq0.false
           c.variable_accepts.ensures c.if-not-variable_accepts.false
-          _ (rw decode-length c.if-s-x.false) e c.equal_runs.ensures.0 c.if-not-equal_runs.false,
+          _ (rw decode-length c.if-s-x.false) e c.equal_runs_of.ensures.0 c.if-not-equal_runs_of.false,
       refl,
-      c.equal_runs.ensures.1,
+      c.equal_runs_of.ensures.1,
     )

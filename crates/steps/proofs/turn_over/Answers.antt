@@ -6,7 +6,7 @@ use Rattle.match_spec.specs.Pattern.{symbol_variable_kind, call_kind}
 use Rattle.steps.specs.State.{left_of, turn_of, spec_place_of, Stands, RunReady}
 use Rattle.steps.specs.declared.State.{State}
 use Rattle.steps.specs.StepLaws.{top_in, levels-same, fine-open, fine_close, fine-name, turn-open, turn_close, turn_many, turn_call}
-use Rattle.steps.proofs.turn.Goals as goal
+use Rattle.steps.proofs.turn_over.Goals as goal
 
 -- what is left of the innermost level lies within the terms
 ready : {names terms : List ℕ} {used : ℕ} {s : State} {lv bd : List ℕ} → TermStore names terms used → used ≤ limit → Stands used (spec_place_of s lv bd)
