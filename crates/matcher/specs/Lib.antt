@@ -1,4 +1,5 @@
 pub mod Ready
+pub mod Given
 pub mod EmitLaws
 pub mod EndLaws
 pub mod FoldLaws

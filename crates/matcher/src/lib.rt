@@ -6,10 +6,13 @@ ghost use Rattle.std.specs.Prelude.{◌≡◌, [], ◌∷◌, ◌≤◌};
 ghost use Rattle.match_spec.specs.Pattern.{name_limit};
 ghost use Rattle.match_spec.specs.Walk.{hit};
 ghost use Rattle.equality.specs.Memory.{Memory};
+ghost use Rattle.equality.specs.Stores.{Remembers};
+ghost use Rattle.matcher.specs.Given.{spec_given};
 ghost use Rattle.steps.specs.State.{spec_place_of, entries_in, EntryRoom};
 ghost use Rattle.matcher.specs.Ready.{given_of, events_from, Ready, CanTurn, TurnTaken, SlotsReady, Written, Walked};
 
 use items::Item;
+use steps::given::Given;
 use steps::{State, Turned};
 use words::Run;
 
@@ -89,12 +92,47 @@ fn take_turn(
     if steps::ends_apart(t.kind, x, last, s, binds) {
         return Turned::Stop;
     }
-    steps::turn(names, terms, used, t, x, last, s, levels, binds, known)
+    steps::turn_over(names, terms, used, t, x, last, s, levels, binds, known)
+}
+
+// The walk from record p on, with a tally that goes on.
+pub fn walk(
+    given: &Given,
+    p: usize,
+    s: State,
+    levels: &mut [u32; steps::LEVEL_WORDS],
+    binds: &mut [u32; steps::ENTRY_WORDS],
+    known: &mut [u16],
+    g: Goal,
+    slots: &mut [u32],
+    f: Tally,
+) -> Tally
+    requires ready { Ready (spec_given given.now) p g.entries (spec_place_of s levels.old binds.old) × Remembers given.now.store known.old }
+    requires open_slots { SlotsReady g f slots.old }
+    ensures { let here = spec_place_of s levels.old binds.old in
+        let walked = Walked g (events_from (spec_given given.now) p here) f result slots.old slots.new here in
+        walked levels.new binds.new × Remembers given.now.store known.new }
+{
+    walk_of(
+        given.store.names,
+        given.store.terms,
+        given.store.used,
+        given.pattern,
+        given.numbers,
+        p,
+        s,
+        levels,
+        binds,
+        known,
+        g,
+        slots,
+        f,
+    )
 }
 
 // The walk from record p on, with a tally that goes on. It calls itself at the next pattern record, and the split loop is inside. The words of
 // the levels are as they were when it returns, and those of the known entries are. Both are lent as arrays: that is one word less for each to hand on.
-pub fn walk(
+pub fn walk_of(
     names: &[u8],
     terms: &[u32],
     used: usize,
@@ -133,7 +171,7 @@ pub fn walk(
             count: f.count,
         },
         Turned::Next(at) => {
-            let got = walk(
+            let got = walk_of(
                 names,
                 terms,
                 used,
@@ -153,7 +191,7 @@ pub fn walk(
         }
         Turned::Split(at) => {
             let mut got = f;
-            let mut next = rigid::next_split(
+            let mut next = rigid::next_split_of(
                 names,
                 terms,
                 used,
@@ -167,7 +205,7 @@ pub fn walk(
             );
             while let Some(k) = next {
                 let given = steps::give(at, k, binds);
-                got = walk(
+                got = walk_of(
                     names,
                     terms,
                     used,
@@ -185,7 +223,7 @@ pub fn walk(
                 if got.stop != Status::Going {
                     return got;
                 }
-                next = rigid::next_split(
+                next = rigid::next_split_of(
                     names,
                     terms,
                     used,

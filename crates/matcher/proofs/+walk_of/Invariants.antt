@@ -4,10 +4,10 @@ use Rattle.equality.specs.Memory.{Memory}
 use Rattle.steps.specs.State.{spec_place_of}
 use Rattle.matcher.specs.Ready.{given_of}
 use Rattle.matcher.specs.SplitLaws.{SplittingAt, splits_left}
-use Rattle.matcher.proofs.+walk.Given as goal
+use Rattle.matcher.proofs.+walk_of.Given as goal
 
-abbrev pub decreases-walk : goal.decreases-walk
-decreases-walk l = length l.pattern.now / 4 - l.p
+abbrev pub decreases-walk_of : goal.decreases-walk_of
+decreases-walk_of l = length l.pattern.now / 4 - l.p
 
 abbrev pub invariant-loop-next : goal.invariant-loop-next
 invariant-loop-next l = record {
