@@ -1,11 +1,15 @@
 // Records of patterns and bindings in lent slices, as structs by value.
 #![tactic(auto)]
 
-ghost use Rattle.std.specs.Prelude.{◌≡◌, refl};
+pub mod kind;
+
+ghost use Rattle.std.specs.Prelude.{◌≡◌, refl, eqb};
 ghost use Rattle.match_spec.specs.Pattern.{Item as SpecItem, Binding as SpecBinding, item_layout, binding_layout};
 ghost use Rattle.words.specs.Records.{as_term};
+ghost use Rattle.items.specs.Kinds.{item_kind};
 ghost use Rattle.items.specs.Records.{as_item, SmallItem, term_of_item, as_binding, SmallBinding};
 
+use kind::ItemKind;
 use words::{Record, Term};
 
 // One record of a pattern, its words widened.
@@ -15,6 +19,15 @@ pub struct Item {
     pub a: usize,
     pub b: usize,
     pub c: usize,
+}
+
+impl Item {
+    // Whether it is of a kind.
+    pub fn is(self, kind: ItemKind) -> bool
+        ensures { result ≡ eqb self.kind (item_kind kind) }
+    {
+        self.kind == kind.number()
+    }
 }
 
 // One binding, its words widened.

@@ -3,13 +3,26 @@
 
 ghost use Rattle.std.specs.Prelude.{◌≡◌, ◌+◌, ◌<◌};
 ghost use Rattle.words.specs.Records.{as_term};
+ghost use Rattle.kinds.specs.Variables.{row_of};
 ghost use Rattle.kinds.specs.Kinds.{rows, columns, ColumnIs, takes_at, takes_term};
 
 use words::Term;
+use words::kind::TermKind;
+
+// The kinds of variables: the rows of the table.
+#[derive(Clone, Copy, Debug, PartialEq, Eq)]
+pub enum VariableKind {
+    Symbol = 0,
+    Term = 1,
+    Expression = 2,
+}
 
 const ROWS: usize = 3;
 
 const COLUMNS: usize = 7;
+
+// The columns of unknowns follow those of the other kinds, which are their own.
+const UNKNOWNS: usize = TermKind::Unknown as usize;
 
 // Rows s, t, e; columns Char, Identifier, Number, Bracket, symbol unknown, term unknown, expression unknown.
 const TAKES: [[bool; COLUMNS]; ROWS] = [
@@ -31,18 +44,24 @@ fn takes(row: usize, column: usize) -> bool
 fn column_of(t: Term) -> Option<usize>
     ensures { ColumnIs result (as_term t) }
 {
-    if t.kind < words::UNKNOWN {
+    if t.kind < UNKNOWNS {
         return Some(t.kind);
     }
     if words::EXPRESSION < t.a {
         return None;
     }
-    Some(words::UNKNOWN + t.a)
+    Some(UNKNOWNS + t.a)
 }
 
-// Whether a variable of row s, t or e (0, 1, 2) takes a term. The rows and columns are numbers: a caller has a row as the distance of two kinds, and enums of
-// both would be made from numbers by a match each before the one look into the table.
-pub fn variable_accepts(row: usize, t: Term) -> bool
+// Whether a variable takes a term.
+pub fn variable_accepts(kind: VariableKind, t: Term) -> bool
+    ensures { result ≡ takes_term (row_of kind) (as_term t) }
+{
+    row_accepts(kind as usize, t)
+}
+
+// Whether a variable of a row takes a term.
+pub fn row_accepts(row: usize, t: Term) -> bool
     requires { row < rows }
     ensures { result ≡ takes_term row (as_term t) }
 {

@@ -40,7 +40,7 @@ fn fit_term(names: &[u8], terms: &[u32], t: Item, start: usize) -> bool
         return u.kind == words::BRACKET;
     }
     if items::CLOSE < t.kind {
-        return kinds::variable_accepts(t.kind - items::S_VARIABLE, u);
+        return kinds::row_accepts(t.kind - items::S_VARIABLE, u);
     }
     value::symbol_matches(names, items::literal(t), u)
 }

@@ -180,7 +180,7 @@ fn turn_single(
         return Turned::Stop;
     }
     let u = words::get::<Term>(terms, s.start);
-    if !kinds::variable_accepts(t.kind - items::S_VARIABLE, u) {
+    if !kinds::row_accepts(t.kind - items::S_VARIABLE, u) {
         return Turned::Stop;
     }
     if s.bound <= x {

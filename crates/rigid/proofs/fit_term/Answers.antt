@@ -8,7 +8,7 @@ pub returns-then-t-eq-OPEN : goal.returns-then-t-eq-OPEN
 returns-then-t-eq-OPEN c used h = term_bracket _ _ _ _ _ _ h c.get-u.ensures c.if-t-eq-OPEN.true
 
 pub returns-then-t-gt-CLOSE : goal.returns-then-t-gt-CLOSE
-returns-then-t-gt-CLOSE c used h = term_single _ _ _ _ _ _ h c.get-u.ensures c.if-t-gt-CLOSE.true c.requires.rule.1 c.variable_accepts.ensures
+returns-then-t-gt-CLOSE c used h = term_single _ _ _ _ _ _ h c.get-u.ensures c.if-t-gt-CLOSE.true c.requires.rule.1 c.row_accepts.ensures
 
 pub symbol_matches-requires-clause-texts : goal.symbol_matches-requires-clause-texts
 symbol_matches-requires-clause-texts c =

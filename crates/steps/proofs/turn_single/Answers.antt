@@ -12,13 +12,13 @@ returns-then-s-eq0 c =
     let v = c.requires.variable in
     (λ last lv. single_none _ _ _ _ _ last _ _ _ v.0 v.1 c.if-s-eq0.true, refl, c.requires.ready.2)
 
-pub returns-then-not-variable_accepts : goal.returns-then-not-variable_accepts
+pub returns-then-not-row_accepts : goal.returns-then-not-row_accepts
 unfolding turn_of
-returns-then-not-variable_accepts c =
+returns-then-not-row_accepts c =
     let a = c.requires.ready in
     let v = c.requires.variable in (
       λ last lv. single_refused _ _ _ _ _ last _ _ _ v.0 v.1 _ c.get-u.ensures a.0.inside c.if-s-eq0.false
-          c.variable_accepts.ensures c.if-not-variable_accepts.true,
+          c.row_accepts.ensures c.if-not-row_accepts.true,
       refl,
       a.2,
     )
@@ -30,7 +30,7 @@ returns-then-s-x c =
     let g = c.give.ensures in (
       λ last lv. gave_next _ _ lv 1 _ _ g.0 g.1
           ∙ single_new _ _ _ _ _ last _ _ _ v.0 v.1 _ c.get-u.ensures a.0.inside c.if-s-eq0.false
-          c.variable_accepts.ensures c.if-not-variable_accepts.false (rw decode-length c.if-s-x.true),
+          c.row_accepts.ensures c.if-not-row_accepts.false (rw decode-length c.if-s-x.true),
       entries_less _ _ _ _ g.1,
       a.2,
     )
@@ -47,7 +47,7 @@ returns-then-not-equal_runs_of c =
     let v = c.requires.variable in
     let e = c.entry-e.ensures _ c.if-s-x.false in (
       λ last lv. single_differs _ _ _ _ _ last _ _ _ v.0 v.1 _ c.get-u.ensures a.0.inside c.if-s-eq0.false
-          c.variable_accepts.ensures c.if-not-variable_accepts.false
+          c.row_accepts.ensures c.if-not-row_accepts.false
           _ (rw decode-length c.if-s-x.false) e c.equal_runs_of.ensures.0 c.if-not-equal_runs_of.true,
       refl,
       c.equal_runs_of.ensures.1,
@@ -60,7 +60,7 @@ returns c =
     let e = c.entry-e.ensures _ c.if-s-x.false in (
       λ last lv. passed_next _ _ lv 1 _ c.pass.ensures
           ∙ single_equals _ _ _ _ _ last _ _ _ v.0 v.1 _ c.get-u.ensures a.0.inside c.if-s-eq0.false
-          c.variable_accepts.ensures c.if-not-variable_accepts.false
+          c.row_accepts.ensures c.if-not-row_accepts.false
           _ (rw decode-length c.if-s-x.false) e c.equal_runs_of.ensures.0 c.if-not-equal_runs_of.false,
       refl,
       c.equal_runs_of.ensures.1,

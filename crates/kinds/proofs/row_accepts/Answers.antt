@@ -1,8 +1,8 @@
--- `kinds::variable_accepts`: the table's entry at the term's column, and nothing past the table.
+-- `kinds::row_accepts`: the table's entry at the term's column, and nothing past the table.
 use Rattle.std.proofs.Common.{arith, ap, ◌∙◌}
 use Rattle.kinds.specs.Kinds.{takes_term, takes_at}
 use Rattle.kinds.specs.KindLaws.{takes_none}
-use Rattle.kinds.proofs.variable_accepts.Goals as goal
+use Rattle.kinds.proofs.row_accepts.Goals as goal
 
 pub takes-requires : goal.takes-requires
 takes-requires c = (c.requires, c.in-Some.ensures.0)
