@@ -84,6 +84,24 @@ module _ (names : List ℕ) (t : Item) where
   unfolding item_rule_k
   item_none k h = let e : k ≡ suc (suc (suc (suc (suc (suc (suc (suc (suc (suc (k - 10)))))))))) = omega arith in rw e refl
 
+  -- each kind by its name, as a test by cases has it
+  pub item_is_literal : (l : Term) (k : ℕ) → l ≡ term_of_item t → k ≡ t.kind → k < open_kind → item_rule_k t.kind names t ≡ symbol_rule l.kind names l.a l.b l.c
+  item_is_literal l k e q h = sym (item_literal l refl e (omega arith))
+
+  pub item_is_bracket : (k : ℕ) → k ≡ t.kind → open_kind ≤ k → k < symbol_variable_kind → item_rule_k t.kind names t ≡ eqb t.b 0 && eqb t.c 0
+  item_is_bracket k q lo hi = item_bracket t.kind (omega arith) (omega arith) refl
+
+  pub item_is_variable : (k : ℕ) → k ≡ t.kind → symbol_variable_kind ≤ k → k < call_kind → item_rule_k t.kind names t ≡ text_rule (spelling name_text) names t.a t.b && eqb t.c 0
+  item_is_variable k q lo hi = item_variable t.kind (omega arith) (omega arith) refl
+
+  pub item_is_call : (k : ℕ) → k ≡ t.kind → call_kind ≤ k → k ≤ block_kind → item_rule_k t.kind names t ≡ eqb t.a 0 && eqb t.b 0 && eqb t.c 0
+  item_is_call k q lo hi = item_call t.kind (omega arith) (omega arith) refl refl
+
+  pub item_is_none : {k : ℕ} → block_kind < k → item_rule_k k names t ≡ false
+  item_is_none h = item_none _ h
+
+pub ruleset item_kinds = (item_is_literal, item_is_bracket, item_is_variable, item_is_call, item_is_none)
+
 -- ---- the two numbers of a pair of brackets ----
 
 pub numbers_apart : (w : List ℕ) (a i o : ℕ) → (a ≡ o → ⊥) → false ≡ (eqb a o && eqb (record_at item_layout w o).a i)

@@ -15,47 +15,28 @@ ghost use Rattle.pattern.specs.Records.{BindingTexts, ItemTexts};
 ghost use Rattle.pattern.specs.Apart.{Told, EachRight, OneWrong};
 
 use arrayvec::ArrayVec;
+use items::kind::ItemKind;
 use items::{Binding, Item};
+use text::TextKind;
 
 // ---- the rule of a pattern (7 BadPattern) ----
 
-// A record by itself, its bracket partner apart.
+// A record by itself, its bracket partner apart. A Call or Block has no words besides its kind.
+#[tactic(auto, using(crate::specs::PatternLaws::item_kinds))]
 fn item_ok(names: &[u8], t: Item) -> bool
     ensures { result ≡ item_rule_k t.kind names.now (as_item t) }
 {
-    if t.kind < items::OPEN {
-        return value::symbol_ok(names, items::literal(t));
-    }
-    if t.kind < items::S_VARIABLE {
-        if t.b != 0 {
-            return false;
+    match ItemKind::try_from(t.kind) {
+        Ok(ItemKind::Char | ItemKind::Identifier | ItemKind::Number) => {
+            value::symbol_ok(names, items::literal(t))
         }
-        return t.c == 0;
-    }
-    if t.kind < items::CALL {
-        if !text::text_ok(names, text::NAME, t.a, t.b) {
-            return false;
+        Ok(ItemKind::Open | ItemKind::Close) => t.b == 0 && t.c == 0,
+        Ok(ItemKind::SVariable | ItemKind::TVariable | ItemKind::EVariable) => {
+            text::text_ok(names, TextKind::Name, t.a, t.b) && t.c == 0
         }
-        return t.c == 0;
+        Ok(ItemKind::Call | ItemKind::Block) => t.a == 0 && t.b == 0 && t.c == 0,
+        Err(_) => false,
     }
-    call_ok(t)
-}
-
-// A Call or Block has no words besides its kind.
-fn call_ok(t: Item) -> bool
-    requires { call_kind ≤ t.kind }
-    ensures { (names : List ℕ) → result ≡ item_rule_k t.kind names (as_item t) }
-{
-    if items::BLOCK < t.kind {
-        return false;
-    }
-    if t.a != 0 {
-        return false;
-    }
-    if t.b != 0 {
-        return false;
-    }
-    t.c == 0
 }
 
 // Whether a Close at i with this a is the partner of the bracket opened at o: each has the other's number.
@@ -78,12 +59,12 @@ pub fn pattern_ok(names: &[u8], pattern: &[u32]) -> bool
         if !item_ok(names, t) {
             return false;
         }
-        if t.kind == items::OPEN {
+        if t.is(ItemKind::Open) {
             if opened.is_full() {
                 return false;
             }
             opened.push(i);
-        } else if t.kind == items::CLOSE {
+        } else if t.is(ItemKind::Close) {
             let Some(o) = opened.pop() else {
                 return false;
             };
@@ -115,7 +96,10 @@ pub fn bindings_inside(bindings: &[u32], terms: usize) -> bool
 pub fn is_variable(kind: usize) -> bool
     ensures { result ≡ variable kind }
 {
-    matches!(kind, items::S_VARIABLE..=items::E_VARIABLE)
+    matches!(
+        ItemKind::try_from(kind),
+        Ok(ItemKind::SVariable | ItemKind::TVariable | ItemKind::EVariable)
+    )
 }
 
 // A name: its kind, and where its text begins in the names and how long it is.
@@ -184,10 +168,7 @@ fn find_binding(names: &[u8], bindings: &[u32], count: usize, x: Name) -> Option
 fn binding_ok(names: &[u8], b: Binding) -> bool
     ensures { result ≡ binding_rule names.now (as_binding b) }
 {
-    if !is_variable(b.kind) {
-        return false;
-    }
-    text::text_ok(names, text::NAME, b.offset, b.size)
+    is_variable(b.kind) && text::text_ok(names, TextKind::Name, b.offset, b.size)
 }
 
 // The rule of few bindings: each one's name is looked for among all before it.

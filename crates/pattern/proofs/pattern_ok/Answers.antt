@@ -4,7 +4,7 @@ use borrow.Author.Tests.{eqb-false}
 use Rattle.items.specs.Records.{as_item}
 use Rattle.numbers.specs.NumbersLaws.{never}
 use Rattle.pattern.specs.PatternLaws.{Nested, nesting_start, nesting_all, nesting_bad, nesting_deep, nesting_opens, nesting_other, nesting_unopened, nesting_uncloses, nesting_closes}
-use Rattle.pattern.proofs.pattern_ok.Goals.{then-t-eq-OPEN+else-is_full, else-t-eq-OPEN+then-t-eq-CLOSE+in-Some+else-not-closes, else-t-eq-OPEN+else-t-eq-CLOSE}
+use Rattle.pattern.proofs.pattern_ok.Goals.{then-is+else-is_full, else-is+then-is-2+in-Some+else-not-closes, else-is+else-is-2}
 use Rattle.pattern.proofs.pattern_ok.Goals as goal
 
 pub loop-i-init : goal.loop-i-init
@@ -22,7 +22,7 @@ returns-then-is_full c =
       read = c.get-t.ensures;
       rule = sym c.item_ok.ensures ∙ c.if-not-item_ok.false;
     } in
-    nesting_deep good c.if-t-eq-OPEN.true (omega (arith, eqb-true _ _ (sym c.is_full.ensures.value ∙ c.if-is_full.true)))
+    nesting_deep good (eqb-true _ _ (sym c.is.ensures ∙ c.if-is.true)) (omega (arith, eqb-true _ _ (sym c.is_full.ensures.value ∙ c.if-is_full.true)))
 
 -- a list that is not longer than none
 none : (l : List ℕ) → (0 < length l → ⊥) → l ≡ []
@@ -39,7 +39,7 @@ returns-in_default c =
       rule = sym c.item_ok.ensures ∙ c.if-not-item_ok.false;
     } in
     let variant = rw c.in_default.is at c.pop.ensures.variant in
-    nesting_unopened good c.if-t-eq-CLOSE.true (none _ (λ more. never (variant.1 more) refl))
+    nesting_unopened good (eqb-true _ _ (sym c.is-else-is.ensures ∙ c.if-is-2.true)) (none _ (λ more. never (variant.1 more) refl))
 
 pub returns-then-not-closes : goal.returns-then-not-closes
 returns-then-not-closes c =
@@ -50,7 +50,7 @@ returns-then-not-closes c =
       read = c.get-t.ensures;
       rule = sym c.item_ok.ensures ∙ c.if-not-item_ok.false;
     } in
-    nesting_uncloses good c.if-t-eq-CLOSE.true _ _ (rw c.in-Some.is at c.pop.ensures.items) c.closes.ensures c.if-not-closes.true
+    nesting_uncloses good (eqb-true _ _ (sym c.is-else-is.ensures ∙ c.if-is-2.true)) _ _ (rw c.in-Some.is at c.pop.ensures.items) c.closes.ensures c.if-not-closes.true
 
 pub loop-i-preserved : goal.loop-i-preserved
 loop-i-preserved c =
@@ -61,13 +61,13 @@ loop-i-preserved c =
       read = c.get-t.ensures;
       rule = sym c.item_ok.ensures ∙ c.if-not-item_ok.false;
     } in
-    elim c.if-t-eq-OPEN.branch [
-      | then-t-eq-OPEN+else-is_full w ↦
+    elim c.if-is.branch [
+      | then-is+else-is_full w ↦
           let room = eqb-false _ _ (sym w.is_full.ensures.value ∙ w.if-is_full.false) in
-          nesting_opens good w.if-t-eq-OPEN.true (omega (arith, w.is_full.ensures.fits, room)) (rw w.opened-is w.push.ensures.items)
-      | else-t-eq-OPEN+then-t-eq-CLOSE+in-Some+else-not-closes w ↦
-          rw w.opened-is (nesting_closes good w.if-t-eq-CLOSE.true _ _ (rw w.in-Some.is at w.pop.ensures.items) w.closes.ensures w.if-not-closes.false)
-      | else-t-eq-OPEN+else-t-eq-CLOSE w ↦ rw w.opened-is (nesting_other good w.if-t-eq-OPEN.false w.if-t-eq-CLOSE.false)
+          nesting_opens good (eqb-true _ _ (sym c.is.ensures ∙ w.if-is.true)) (omega (arith, w.is_full.ensures.fits, room)) (rw w.opened-is w.push.ensures.items)
+      | else-is+then-is-2+in-Some+else-not-closes w ↦
+          rw w.opened-is (nesting_closes good (eqb-true _ _ (sym w.is-else-is.ensures ∙ w.if-is-2.true)) _ _ (rw w.in-Some.is at w.pop.ensures.items) w.closes.ensures w.if-not-closes.false)
+      | else-is+else-is-2 w ↦ rw w.opened-is (nesting_other good (eqb-false _ _ (sym c.is.ensures ∙ w.if-is.false)) (eqb-false _ _ (sym w.is-else-is.ensures ∙ w.if-is-2.false)))
     ]
 
 pub returns : goal.returns
