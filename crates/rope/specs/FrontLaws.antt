@@ -20,6 +20,7 @@ use Rattle.view_spec.specs.Read.{equal_terms}
 use Rattle.view_spec.proofs.ReadLaws.{equal-terms}
 use Rattle.nodes.specs.NodeStore.{nodes_in, NodeStore, AnyStore}
 use Rattle.value.specs.Equal.{values_in, spec_equal_runs}
+use Rattle.value.specs.declared.store.Store.{Store}
 use Rattle.numbers.specs.Numbers.{form_at}
 use Rattle.numbers.specs.NumbersLaws.{equal-forms, forms-equal, never}
 use Rattle.places.specs.Rest.{Rest, rest, passed}
@@ -141,6 +142,10 @@ module _ {names w : List ℕ} {used : ℕ} {numbers ps qs : List ℕ} {k : ℕ} 
 -- The rule of the nodes, over the list of the values.
 values-good : (names w nodes : List ℕ) (over used : ℕ) → NodeStore nodes over used → T (nodes_rule (length (values_in names w over)) (nodes_in nodes used))
 values-good names w nodes over used s = rw (values_length, decode-length) s.good
+
+-- Two nodes over a store of the code.
+pub over_store : (s : Store) {nodes : List ℕ} {used f g n : ℕ} → ShowBoth nodes s.used used f g n → Ropes s.names.now s.terms.now nodes s.used used f g n
+over_store s shows = record { terms = s.good; few = s.few; shows = shows }
 
 -- No more terms than a node can have.
 pub ropes_short : {names w nodes : List ℕ} {over used f g n : ℕ} → Ropes names w nodes over used f g n → n ≤ limit

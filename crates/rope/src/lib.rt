@@ -13,34 +13,34 @@ ghost use Rattle.term_spec.specs.Term.{term_layout, limit};
 ghost use Rattle.view_spec.specs.Node.{holds};
 ghost use Rattle.view_spec.specs.Read.{equal_terms};
 ghost use Rattle.nodes.specs.NodeStore.{nodes_in, NodeStore, Reaches};
-ghost use Rattle.value.specs.Equal.{TermStore, values_in};
+ghost use Rattle.value.specs.Equal.{values_in};
+ghost use Rattle.value.specs.Store.{values_of};
 ghost use Rattle.rope.specs.Pieces.{Below, Shows, ShowsOf, ShowBoth};
-ghost use Rattle.rope.specs.Fronts.{Ropes, RopesKnown, PlacesKnown, TellsFronts, equal_from, picked};
+ghost use Rattle.rope.specs.Fronts.{RopesKnown, PlacesKnown, TellsFronts, equal_from, picked};
 ghost use Rattle.rope.specs.CopiedLaws.{Task, CopiedPart};
 
 use equality::Outcome;
 use places::pieces::Field;
 use reader::{Reader, STEPS_ALONE};
 use source::{After, Out, Source};
+use value::store::Store;
 use words::Run;
 
 // ---- comparing ----
 
 // Compares the first n terms of two nodes run by run, as far as fuel and budget go: how many are equal, or none if they differ.
 fn equal_some(
-    names: &[u8],
-    terms: &[u32],
+    store: &Store,
     nodes: &[u32],
     f: usize,
     g: usize,
     n: usize,
     budget: usize,
 ) -> Option<usize>
-    requires { (over used : ℕ) × Ropes names.now terms.now nodes.now over used f g n }
-    ensures { let text = names.now in
-        let store = terms.now in
-        let words = nodes.now in
-        ((over used : ℕ) → Ropes text store words over used f g n → TellsFronts (values_in text store over) (nodes_in words used) f g n result) }
+    requires { (used : ℕ) × ShowBoth nodes.now store.now.used used f g n }
+    ensures { let words = nodes.now in
+        let vs = values_of store.now in
+        ((used : ℕ) → ShowBoth words store.now.used used f g n → TellsFronts vs (nodes_in words used) f g n result) }
 {
     let mut a = Reader::new(Field { node: f, len: n });
     let mut b = Reader::new(Field { node: g, len: n });
@@ -55,7 +55,7 @@ fn equal_some(
         let k = r.len.min(s.len);
         let first = Run { len: k, ..r };
         let second = Run { len: k, ..s };
-        match equality::equal_runs_within(names, terms, first, second, left) {
+        match equality::equal_runs_within(store.names, store.terms, first, second, left) {
             Outcome::Different(_) => return None,
             Outcome::Spent => return Some(a.done),
             Outcome::Equal(rest) => left = rest,
@@ -112,57 +112,37 @@ fn equal_parts(nodes: &[u32], known: &[u16], f: usize, g: usize, from: usize, n:
 
 // The same, the terms being numbered for it. The numbers take 128 KB of stack, which callers that never come here do not need.
 #[inline(never)]
-fn equal_rest(
-    names: &[u8],
-    terms: &[u32],
-    terms_used: usize,
-    nodes: &[u32],
-    f: usize,
-    g: usize,
-    from: usize,
-    n: usize,
-) -> bool
+fn equal_rest(store: &Store, nodes: &[u32], f: usize, g: usize, from: usize, n: usize) -> bool
     requires within { from ≤ n }
-    requires good { (used : ℕ) × Ropes names.now terms.now nodes.now terms_used used f g n }
-    ensures { let text = names.now in
-        let store = terms.now in
-        let words = nodes.now in
-        ((used : ℕ) → Ropes text store words terms_used used f g n
-        → result ≡ equal_from (values_in text store terms_used) (nodes_in words used) f g n from) }
+    requires shows { (used : ℕ) × ShowBoth nodes.now store.now.used used f g n }
+    ensures { let words = nodes.now in
+        let vs = values_of store.now in
+        ((used : ℕ) → ShowBoth words store.now.used used f g n → result ≡ equal_from vs (nodes_in words used) f g n from) }
 {
     let mut known = [0u16; words::LIMIT];
-    numbers::number_terms(names, terms, terms_used, &mut known);
+    numbers::number_terms(store, &mut known);
     equal_parts(nodes, &known, f, g, from, n)
 }
 
 // Whether the first n terms of two nodes are equal.
-pub fn equal_fronts(
-    names: &[u8],
-    terms: &[u32],
-    terms_used: usize,
-    nodes: &[u32],
-    f: usize,
-    g: usize,
-    n: usize,
-) -> bool
-    requires good_terms { TermStore names.now terms.now terms_used × (terms_used ≤ limit) }
-    requires good_nodes { (used : ℕ) × ShowBoth nodes.now terms_used used f g n }
+pub fn equal_fronts(store: &Store, nodes: &[u32], f: usize, g: usize, n: usize) -> bool
+    requires { (used : ℕ) × ShowBoth nodes.now store.now.used used f g n }
     ensures { let words = nodes.now in
-        let vs = values_in names.now terms.now terms_used in
-        ((used : ℕ) → ShowBoth words terms_used used f g n
+        let vs = values_of store.now in
+        ((used : ℕ) → ShowBoth words store.now.used used f g n
         → result ≡ equal_terms (holds vs (nodes_in words used) (record { node = f; len = n }))
         (holds vs (nodes_in words used) (record { node = g; len = n }))) }
 {
     if f == g {
         return true;
     }
-    match equal_some(names, terms, nodes, f, g, n, terms_used + n + STEPS_ALONE) {
+    match equal_some(store, nodes, f, g, n, store.used + n + STEPS_ALONE) {
         None => false,
         Some(done) => {
             if done == n {
                 return true;
             }
-            equal_rest(names, terms, terms_used, nodes, f, g, done, n)
+            equal_rest(store, nodes, f, g, done, n)
         }
     }
 }

@@ -7,6 +7,7 @@ ghost use Rattle.places.specs.Ahead.{rest_of};
 ghost use Rattle.rope.specs.Pieces.{steps, steps_alone, ReadyIn, RunIn};
 
 use places::pieces::{Ahead, Field, Piece};
+use words::kind::NodeKind;
 use words::{Node, Run};
 
 // Words of the stack: two to a field.
@@ -63,7 +64,7 @@ impl Reader {
                 continue;
             }
             let here = n.b - at.skip;
-            if n.kind == words::CONS {
+            if n.is(NodeKind::Cons) {
                 return Some(Run {
                     start: n.a + at.skip,
                     len: at.left.min(here),

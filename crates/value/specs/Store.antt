@@ -1,8 +1,13 @@
 -- A store of the code, as the definitions take it.
-use Rattle.std.specs.Prelude.{Bool, ℕ, ◌+◌, ◌≤◌}
+use Rattle.std.specs.Prelude.{List, Bool, ℕ, ◌+◌, ◌≤◌}
 use Rattle.term_spec.specs.Term.{Run}
-use Rattle.value.specs.Equal.{equal_at, spec_equal_runs}
+use Rattle.term_spec.specs.Value.{Value}
+use Rattle.value.specs.Equal.{equal_at, spec_equal_runs, values_in}
 use Rattle.value.specs.declared.store.Store.{Store}
+
+-- The values of its used terms.
+abbrev pub values_of : Store → List Value
+values_of s = values_in s.names.now s.terms.now s.used
 
 -- Whether terms i and j of a store are equal, and whether two of its runs are.
 abbrev pub terms_equal : Store → ℕ → ℕ → Bool

@@ -3,8 +3,8 @@ use Rattle.rope.proofs.equal_rest.Goals as goal
 
 pub equal_parts-requires : goal.equal_parts-requires
 equal_parts-requires c =
-    let good = c.requires.good.1 in
-    record { within = c.requires.within; numbered = (_, _, _, _, record { known = c.number_terms.ensures.0; few = good.few; shows = good.shows }) }
+    let few = c.args.store.now.few in
+    record { within = c.requires.within; numbered = (_, _, _, _, record { known = c.number_terms.ensures.0; few = few; shows = c.requires.shows.1 }) }
 
 pub returns : goal.returns
-returns c used good = c.equal_parts.ensures _ _ _ used (record { known = c.number_terms.ensures.0; few = good.few; shows = good.shows })
+returns c used shows = c.equal_parts.ensures _ _ _ used (record { known = c.number_terms.ensures.0; few = c.args.store.now.few; shows = shows })

@@ -1,4 +1,6 @@
-use Rattle.std.proofs.Common.{arith, refl}
+-- The piece is taken to its first run, down the left of a Concat and on to the right or the tail where a part is used up.
+use Rattle.std.proofs.Common.{arith, refl, sym, ◌∙◌, eqb-true}
+use borrow.Author.Tests.{eqb-false}
 use Rattle.rope.specs.PiecesLaws.{goes_here, goes_on, goes_small, goes_in, goes_split, goes_cut, goes-front, front_fits, front_read}
 use Rattle.rope.proofs.reader.Reader.to_run.Goals as goal
 
@@ -22,14 +24,14 @@ overflow_add-result c =
     let asked = c.requires in
     let goes = c.loop-self.invariant.goes _ asked.store asked.ready in
     let low = (goes_here _ _ asked.store goes refl).0 in
-    let begins = goes-front _ _ asked.store goes c.get-n.ensures c.if-n-eq-CONS.true c.if-n-at.false in
+    let begins = goes-front _ _ asked.store goes c.get-n.ensures (eqb-true _ _ (sym c.is.ensures ∙ c.if-is.true)) c.if-n-at.false in
     omega (arith, front_fits _ _ _ _ low c.get-n.ensures asked.store begins)
 
-pub returns-then-n-eq-CONS-clause-run : goal.returns-then-n-eq-CONS-clause-run
-returns-then-n-eq-CONS-clause-run c used store ready =
+pub returns-then-is-clause-run : goal.returns-then-is-clause-run
+returns-then-is-clause-run c used store ready =
     let goes = c.loop-self.invariant.goes used store ready in
     let low = (goes_here _ _ store goes refl).0 in (
-      record { goes = goes; begins = goes-front _ _ store goes c.get-n.ensures c.if-n-eq-CONS.true c.if-n-at.false },
+      record { goes = goes; begins = goes-front _ _ store goes c.get-n.ensures (eqb-true _ _ (sym c.is.ensures ∙ c.if-is.true)) c.if-n-at.false },
       front_read _ _ _ _ low c.get-n.ensures _ c.min.ensures,
     )
 
@@ -42,7 +44,7 @@ loop-self-preserved-then-at-here c =
       whole = inv.whole;
       done = inv.done;
       goes = λ used store ready.
-          goes_in _ _ store (inv.goes used store ready) c.get-n.ensures c.if-n-eq-CONS.false c.if-n-at.false c.if-at-here.true;
+          goes_in _ _ store (inv.goes used store ready) c.get-n.ensures (eqb-false _ _ (sym c.is.ensures ∙ c.if-is.false)) c.if-n-at.false c.if-at-here.true;
     }
 
 -- ---- the stack is full ----
@@ -59,7 +61,7 @@ push-requires c =
     let asked = c.requires in
     let goes = c.loop-self.invariant.goes _ asked.store asked.ready in
     let here = goes_here _ _ asked.store goes c.get-n.ensures in
-    let small = goes_small _ _ asked.store goes c.get-n.ensures c.if-n-eq-CONS.false c.if-n-at.false in
+    let small = goes_small _ _ asked.store goes c.get-n.ensures (eqb-false _ _ (sym c.is.ensures ∙ c.if-is.false)) c.if-n-at.false in
     (omega arith, (c.if-is_full.ensures refl, small.1, omega (arith, here.2)))
 
 pub loop-self-preserved : goal.loop-self-preserved
@@ -69,5 +71,5 @@ loop-self-preserved c =
       whole = inv.whole;
       done = inv.done;
       goes = λ used store ready.
-          goes_split _ _ store (inv.goes used store ready) c.get-n.ensures c.if-n-eq-CONS.false c.if-n-at.false c.if-at-here.false c.push.ensures;
+          goes_split _ _ store (inv.goes used store ready) c.get-n.ensures (eqb-false _ _ (sym c.is.ensures ∙ c.if-is.false)) c.if-n-at.false c.if-at-here.false c.push.ensures;
     }
