@@ -1,6 +1,7 @@
 // A clause: a verb and its values, which are numbers.
 use crate::fault::Fault;
 use crate::kind::Kind;
+use words::kind::TermKind;
 use crate::vocabulary::{Region, Verb};
 use std::alloc::Global;
 
@@ -63,7 +64,7 @@ impl Clause {
     // A record for each character of the text.
     pub fn characters(&mut self, text: &[u8]) -> Result<(), Fault> {
         for byte in text {
-            self.begin(Kind::Char)?;
+            self.begin(Kind::Term(TermKind::Char))?;
             self.push(usize::from(*byte))?;
         }
         Ok(())

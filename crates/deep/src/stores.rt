@@ -1,8 +1,10 @@
 // The stores: nodes above the terms abcd, and brackets that share their contents.
 ghost use Rattle.std.specs.Prelude.{◌≡◌, ◌<◌, ◌≤◌};
+ghost use Rattle.words.specs.Kinds.{term_kind, node_kind};
 ghost use Rattle.words.specs.Records.{Small, SmallNode};
 
 use std::alloc::{AllocError, Global};
+use words::kind::{NodeKind, TermKind};
 use words::{LIMIT, NODE_WIDTH, Node, TERM_WIDTH, Term};
 
 // The nodes and the terms that a store has room for: one node more than the limit.
@@ -63,20 +65,20 @@ impl Spine {
         ensures { SmallNode result }
     {
         match (self, i) {
-            (_, 0) => node(words::NIL, 0, 0, 0, 0, 0),
-            (Spine::Chain, _) => node(words::CONS, i % 4, 1, i - 1, 1, i),
-            (_, 1) => node(words::CONS, 0, 4, 0, 1, 4),
-            (Spine::Right, _) => node(words::CONCAT, 1, 1, i - 1, i, (i + 3).min(LIMIT)),
-            (Spine::Left, _) => node(words::CONCAT, i - 1, 2, 1, i, 6),
+            (_, 0) => node(NodeKind::Nil, 0, 0, 0, 0, 0),
+            (Spine::Chain, _) => node(NodeKind::Cons, i % 4, 1, i - 1, 1, i),
+            (_, 1) => node(NodeKind::Cons, 0, 4, 0, 1, 4),
+            (Spine::Right, _) => node(NodeKind::Concat, 1, 1, i - 1, i, (i + 3).min(LIMIT)),
+            (Spine::Left, _) => node(NodeKind::Concat, i - 1, 2, 1, i, 6),
         }
     }
 }
 
-fn node(kind: usize, a: usize, b: usize, c: usize, height: usize, reach: usize) -> Node
-    ensures { result ≡ record { kind = kind; a = a; b = b; c = c; height = height; reach = reach } }
+fn node(kind: NodeKind, a: usize, b: usize, c: usize, height: usize, reach: usize) -> Node
+    ensures { result ≡ record { kind = node_kind kind; a = a; b = b; c = c; height = height; reach = reach } }
 {
     Node {
-        kind,
+        kind: kind.number(),
         a,
         b,
         c,
@@ -119,17 +121,17 @@ impl Brackets {
         let at = i % 5;
         if level == 0 {
             let letter = if at < same { b'a' } else { b'b' };
-            return term(words::CHAR, usize::from(letter), 0, 0);
+            return term(TermKind::Char, usize::from(letter), 0, 0);
         }
-        term(words::BRACKET, (level - 1) * 5 + self.start(at), 2, level)
+        term(TermKind::Bracket, (level - 1) * 5 + self.start(at), 2, level)
     }
 }
 
-fn term(kind: usize, a: usize, b: usize, c: usize) -> Term
-    ensures { result ≡ record { kind = kind; a = a; b = b; c = c; d = 0 } }
+fn term(kind: TermKind, a: usize, b: usize, c: usize) -> Term
+    ensures { result ≡ record { kind = term_kind kind; a = a; b = b; c = c; d = 0 } }
 {
     Term {
-        kind,
+        kind: kind.number(),
         a,
         b,
         c,
