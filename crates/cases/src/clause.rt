@@ -1,9 +1,9 @@
 // A clause: a verb and its values, which are numbers.
 use crate::fault::Fault;
 use crate::kind::Kind;
-use words::kind::TermKind;
 use crate::vocabulary::{Region, Verb};
 use std::alloc::Global;
+use words::kind::TermKind;
 
 // The most values of a clause.
 const MOST_VALUES: usize = 5200;
