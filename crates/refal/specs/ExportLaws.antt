@@ -41,3 +41,6 @@ pub write-left : (a : SheetAnswer) {x : SheetAnswer × List ℕ} {t : ℕ × ℕ
     → t ≡ written_out a old → ◌≡◌ {A = (ℕ × ℕ) × List ℕ} (t, o) (after_write x old)
 unfolding after_write
 write-left a {x} {t} {o} old e p = ap (λ (v : ℕ × ℕ). (v, o)) p ∙ ap (λ (z : SheetAnswer × List ℕ). after_write z old) e
+
+-- By which the check finds that an export tells what its call does.
+pub ruleset exports = (field-left, truth_left, flat_left, list_left)

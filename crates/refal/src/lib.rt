@@ -1,5 +1,5 @@
 // The library for C and Rust: each public call with its answer as document 01's number, and its values in out parameters.
-#![tactic(auto)]
+#![tactic(auto, using(crate::specs::ExportLaws::exports), unfolding(outputs::specs::SheetOutputs::after_write))]
 
 ghost use Rattle.std.specs.Prelude.{◌≡◌};
 ghost use Rattle.match_spec.specs.Answer.{allOfThem, headOnly};
