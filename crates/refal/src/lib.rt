@@ -60,14 +60,8 @@ pub extern "C" fn naldrev_join(
         let did = step before (call_join (field_of left_node left_len) (field_of right_node right_len)) in
         ((result, node.new, len.new), after) ≡ after_field did node.old len.old }
 {
-    let left = Field {
-        node: left_node,
-        len: left_len,
-    };
-    let right = Field {
-        node: right_node,
-        len: right_len,
-    };
+    let left = Field::new(left_node, left_len);
+    let right = Field::new(right_node, right_len);
     let joined = view::join(names, terms, terms_used, nodes, nodes_used, left, right);
     outputs::put_field(joined, node, len)
 }
@@ -90,10 +84,7 @@ pub extern "C" fn naldrev_take(
         let did = step before (call_take (field_of field_node field_len) count) in
         ((result, node.new, len.new), before) ≡ after_field did node.old len.old }
 {
-    let f = Field {
-        node: field_node,
-        len: field_len,
-    };
+    let f = Field::new(field_node, field_len);
     let taken = view::take(names, terms, terms_used, nodes, nodes_used, f, count);
     outputs::put_field(taken, node, len)
 }
@@ -117,10 +108,7 @@ pub extern "C" fn naldrev_rest(
         let did = step before (call_rest (field_of field_node field_len) count) in
         ((result, node.new, len.new), after) ≡ after_field did node.old len.old }
 {
-    let f = Field {
-        node: field_node,
-        len: field_len,
-    };
+    let f = Field::new(field_node, field_len);
     let dropped = view::rest(names, terms, terms_used, nodes, nodes_used, f, count);
     outputs::put_field(dropped, node, len)
 }
@@ -145,10 +133,7 @@ pub extern "C" fn naldrev_range(
         let did = step before (call_range (field_of field_node field_len) start count) in
         ((result, node.new, len.new), after) ≡ after_field did node.old len.old }
 {
-    let f = Field {
-        node: field_node,
-        len: field_len,
-    };
+    let f = Field::new(field_node, field_len);
     let ranged = view::range(names, terms, terms_used, nodes, nodes_used, f, start, count);
     outputs::put_field(ranged, node, len)
 }
@@ -173,14 +158,8 @@ pub extern "C" fn naldrev_starts_with(
         let did = step before (call_starts_with (field_of field_node field_len) (field_of front_node front_len)) in
         ((result, yes.new), before) ≡ after_truth did yes.old }
 {
-    let f = Field {
-        node: field_node,
-        len: field_len,
-    };
-    let front = Field {
-        node: front_node,
-        len: front_len,
-    };
+    let f = Field::new(field_node, field_len);
+    let front = Field::new(front_node, front_len);
     let starts = view_read::starts_with(names, terms, terms_used, nodes, nodes_used, f, front);
     outputs::put_truth(starts, yes)
 }
@@ -203,14 +182,8 @@ pub extern "C" fn naldrev_equal(
         let did = step before (call_equal (field_of left_node left_len) (field_of right_node right_len)) in
         ((result, yes.new), before) ≡ after_truth did yes.old }
 {
-    let left = Field {
-        node: left_node,
-        len: left_len,
-    };
-    let right = Field {
-        node: right_node,
-        len: right_len,
-    };
+    let left = Field::new(left_node, left_len);
+    let right = Field::new(right_node, right_len);
     let same = view_read::equal(names, terms, terms_used, nodes, nodes_used, left, right);
     outputs::put_truth(same, yes)
 }
@@ -235,10 +208,7 @@ pub extern "C" fn naldrev_flatten(
         let told = after_flat did in_work.old start.old count.old in
         ((result, in_work.new, start.new, count.new), before, work.new) ≡ told }
 {
-    let f = Field {
-        node: field_node,
-        len: field_len,
-    };
+    let f = Field::new(field_node, field_len);
     let flat = view_read::flatten(names, terms, terms_used, nodes, nodes_used, f, work);
     outputs::put_flat(flat, in_work, start, count)
 }
@@ -302,10 +272,7 @@ pub extern "C" fn naldrev_match_pattern_with_bindings_candidates(
         let did = step before (call_match allOfThem request) in
         ((result, count.new, entries.new), after, slots.new) ≡ after_list did count.old entries.old }
 {
-    let f = Field {
-        node: field_node,
-        len: field_len,
-    };
+    let f = Field::new(field_node, field_len);
     let listed = listing::match_pattern_with_bindings_candidates(
         names, terms, terms_used, nodes, nodes_used, f, pattern, bindings, slots,
     );
@@ -334,10 +301,7 @@ pub extern "C" fn naldrev_match_pattern_first(
         let did = step before (call_match headOnly request) in
         ((result, count.new, entries.new), after, slots.new) ≡ after_list did count.old entries.old }
 {
-    let f = Field {
-        node: field_node,
-        len: field_len,
-    };
+    let f = Field::new(field_node, field_len);
     let head = listing::match_pattern_first(
         names, terms, terms_used, nodes, nodes_used, f, pattern, bindings, slots,
     );
