@@ -16,7 +16,8 @@ use Rattle.sheet_spec.specs.Sheet.{Columns, unfit, digit, space, byte, scan, sho
 
 -- ---- one byte more ----
 
-byte_by : (c : Columns) (b : ℕ) (t : Bool) → spec_is_digit b ≡ t → byte c b ≡ elim t [ true ↦ digit c (b - 48) | false ↦ elim (eqb b 32) [ true ↦ space c | false ↦ unfit ] ]
+byte_by : (c : Columns) (b : ℕ) (t : Bool) → spec_is_digit b ≡ t
+    → byte c b ≡ elim t [ true ↦ digit c (b - 48) | false ↦ elim (eqb b 32) [ true ↦ space c | false ↦ unfit ] ]
 unfolding byte
 byte_by c b t e = ap (λ x. elim x as (λ _. Columns) [ true ↦ digit c (b - 48) | false ↦ elim (eqb b 32) [ true ↦ space c | false ↦ unfit ] ]) e
 
