@@ -323,13 +323,10 @@ pub extern "C" fn naldrev_read_sheet(
     pattern_count: &mut usize,
     run_count: &mut usize,
 ) -> usize
-    ensures { let before3 = read_outs term_count.old name_start.old name_count.old in
-        let before = before3 pattern_count.old run_count.old in
-        let after3 = read_outs term_count.new name_start.new name_count.new in
-        let after = after3 pattern_count.new run_count.new in
-        let read = read_into (spec_read_sheet text.now) (counts_at text.now) in
-        let words = read terms.old pattern.old runs.old in
-        ((result, after), terms.new, pattern.new, runs.new) ≡ after_read words before }
+    ensures { let before = read_outs term_count.old name_start.old name_count.old pattern_count.old run_count.old in
+        let after = read_outs term_count.new name_start.new name_count.new pattern_count.new run_count.new in
+        let read = read_into (spec_read_sheet text.now) (counts_at text.now) terms.old pattern.old runs.old in
+        ((result, after), terms.new, pattern.new, runs.new) ≡ after_read read before }
 {
     outputs::read_sheet(
         text,
