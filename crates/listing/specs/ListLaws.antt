@@ -24,7 +24,8 @@ use Rattle.match_spec.proofs.NameLaws.{names_grow}
 use Rattle.match_spec.specs.Answer.{Wanted, Progress, spec_slots_in, absorb, number_of}
 use Rattle.match_spec.proofs.RunLaws.{Inside}
 use Rattle.calls_spec.specs.Store.{Store, terms, nodes, capacity, add_terms}
-use Rattle.calls_spec.specs.Step.{Request, Answer, refused, in_store, answer_number, call_match, ask, even_request, ask_request, given, fits, changed, deed, input}
+use Rattle.calls_spec.specs.Step.{Request, Answer, refused, in_store, answer_number, call_match, ask}
+use Rattle.calls_spec.specs.Step.{even_request, ask_request, given, fits, changed, deed, input}
 use Rattle.calls_spec.specs.Step.{room, accept, refuse, step, items, bindings, pattern_of, start_names, all_names, numbered_pattern, start_runs, field_copy}
 use Rattle.calls_spec.specs.Step.{match_events, match_progress, match_answer, fill_slots}
 use Rattle.view_spec.proofs.NodeLaws.{facts_field}

@@ -28,7 +28,8 @@ unfolding decode
 copied_none bindings binds h = record { below = omega arith; room = h; same = refl }
 
 -- a binding's run is its last two words
-bound_read : (w : List ℕ) (i : ℕ) → ◌≡◌ {A = Run} (record { start = get_or w (5 * i + 3) 0; len = get_or w (5 * i + 4) 0 }) (bound_run (record_at binding_layout w i))
+bound_read : (w : List ℕ) (i : ℕ)
+    → ◌≡◌ {A = Run} (record { start = get_or w (5 * i + 3) 0; len = get_or w (5 * i + 4) 0 }) (bound_run (record_at binding_layout w i))
 bound_read w i =
     let e : 5 * i ≡ i * 5 = omega arith in
     rw e (ap bound_run (binding_read w i refl refl refl refl refl))
@@ -87,5 +88,6 @@ unfolding count
 start_entries bindings st e h = ap (λ n. decode run_layout n st.binds) e ∙ h
 
 -- The events of the walk from there.
-pub start_events : (v : Given) (st : Place) {r : Run} {start : List Run} → levels_of st ≡ r ∷ [] → entries_of st ≡ start → events_at v r start ≡ events_from v 0 st
+pub start_events : (v : Given) (st : Place) {r : Run} {start : List Run} → levels_of st ≡ r ∷ [] → entries_of st ≡ start
+    → events_at v r start ≡ events_from v 0 st
 start_events v st el ee = ap₂ (walk (reading_of v) (pattern_from v 0)) (sym el) (sym ee)

@@ -26,16 +26,13 @@ pub enum Matched {
 }
 
 // 1 Uneven, of pattern and bindings: whole, and at most 256 pattern records.
+#[tactic(auto, using(std::proofs::lemmas::Bool::Decides::nat_tests), unfolding(term_spec::specs::Words::whole, term_spec::specs::Words::count))]
 fn request_even(pattern: &[u32], bindings: &[u32]) -> bool
     ensures { result ≡ even_words pattern.now bindings.now }
 {
-    if pattern.len() % items::ITEM_WIDTH != 0 {
-        return false;
-    }
-    if items::PATTERN_LIMIT < pattern.len() / items::ITEM_WIDTH {
-        return false;
-    }
-    bindings.len() % items::BINDING_WIDTH == 0
+    pattern.len() % items::ITEM_WIDTH == 0
+        && pattern.len() / items::ITEM_WIDTH <= items::PATTERN_LIMIT
+        && bindings.len() % items::BINDING_WIDTH == 0
 }
 
 // The first of 1 to 8 that applies.
@@ -97,6 +94,7 @@ pub fn name_count(names: &[u8], pattern: &[u32], bindings: &[u32]) -> usize
 }
 
 // The slots that fit whole; with no names there is one, of no words.
+#[tactic(auto, using(crate::specs::AnswerLaws::slots_one, crate::specs::AnswerLaws::slots_more))]
 fn slots_in(words: usize, names: usize) -> usize
     requires { names ≤ name_limit }
     ensures { result ≡ spec_slots_in words names }
@@ -175,6 +173,7 @@ fn list(
 }
 
 // Lists the candidates of a pattern over a field, from starting bindings, into slots.
+#[tactic(auto, unfolding(matcher::specs::Ready::wanted_of))]
 pub fn match_pattern_with_bindings_candidates(
     names: &[u8],
     terms: &mut [u32],
@@ -198,6 +197,7 @@ pub fn match_pattern_with_bindings_candidates(
 }
 
 // The first candidate alone: the head of that list.
+#[tactic(auto, unfolding(matcher::specs::Ready::wanted_of))]
 pub fn match_pattern_first(
     names: &[u8],
     terms: &mut [u32],

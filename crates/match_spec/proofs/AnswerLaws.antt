@@ -11,7 +11,8 @@ use Rattle.match_spec.specs.Element.{Element, lit, opening, closing, call, one, 
 use Rattle.match_spec.specs.Pattern.{Name, add, number}
 use Rattle.match_spec.specs.Listing.{first, leave, cuts, finish, candidates}
 use Rattle.match_spec.specs.Walk.{Event, hit, tried, reached, Reading, walk, hits}
-use Rattle.match_spec.specs.Answer.{going, done, full, called, Progress, started, Wanted, allOfThem, headOnly, after_one, write_hit, absorb_one, absorb, number_of}
+use Rattle.match_spec.specs.Answer.{going, done, full, called, Progress, started, Wanted, allOfThem}
+use Rattle.match_spec.specs.Answer.{headOnly, after_one, write_hit, absorb_one, absorb, number_of}
 use Rattle.match_spec.proofs.SoundLaws.{Numbered, sound}
 use Rattle.match_spec.proofs.WalkLaws.{empty, walk-lists, Reads}
 use Rattle.match_spec.proofs.KeepLaws.{HasCall, walk_has}
@@ -47,7 +48,8 @@ module _ {E : Type 0} (q : Wanted) (slots : ℕ) where
   absorb_called (tried ∷ l) w = absorb_called l w
   absorb_called (reached ∷ l) w = absorb_called l w
 
-  pub write-room : (w : List E) (B : E) → length w < slots → write_hit q (dec_lt (length w) slots) w B ≡ record { written = w ++ (B ∷ []); status = after_one q }
+  pub write-room : (w : List E) (B : E) → length w < slots
+      → write_hit q (dec_lt (length w) slots) w B ≡ record { written = w ++ (B ∷ []); status = after_one q }
   unfolding write_hit
   write-room w B h = go (dec_lt (length w) slots)
     where
@@ -109,7 +111,8 @@ absorb_over slots [] w q h k = absurd (omega arith)
 absorb_over {E} slots (hit B ∷ l) w q h k = go (dec_lt (length w) slots) (absorb_over slots l (w ++ (B ∷ [])) q)
   where
     go : Dec (length w < slots) → (length (w ++ (B ∷ [])) ≤ slots → slots < length (w ++ (B ∷ [])) + length (hits l)
-        → absorb allOfThem slots l (record { written = w ++ (B ∷ []); status = going }) ≡ record { written = take slots ((w ++ (B ∷ [])) ++ hits l); status = full })
+        → absorb allOfThem slots l (record { written = w ++ (B ∷ []); status = going })
+        ≡ record { written = take slots ((w ++ (B ∷ [])) ++ hits l); status = full })
         → absorb allOfThem slots l (write_hit allOfThem (dec_lt (length w) slots) w B) ≡ record { written = take slots (w ++ (B ∷ hits l)); status = full }
     go (yes i) ih = ap (absorb allOfThem slots l) (write-room allOfThem slots w B i) ∙ ih (simp length-append (omega arith)) (simp length-append (omega arith))
         ∙ ap (λ y. record { written = take slots y; status = full }) (append_snoc w B (hits l))
@@ -170,7 +173,8 @@ number-due n l q = go (dec_le (length (hits l)) n)
     go : Dec (length (hits l) ≤ n) → answered allOfThem n l ≡ due (length (hits l)) n
     go (yes h) = ap (λ o. number_of o.status o.written) (absorb-fits n l [] q (omega arith)) ∙ number_going (hits l) n h
     go (no h) =
-        ap (λ o. number_of o.status o.written) (absorb_over n l [] q (omega arith) (omega arith)) ∙ number-full (take n (hits l)) (length (hits l)) n (omega arith)
+        ap (λ o. number_of o.status o.written) (absorb_over n l [] q (omega arith) (omega arith))
+        ∙ number-full (take n (hits l)) (length (hits l)) n (omega arith)
 
 -- ---- the head alone ----
 

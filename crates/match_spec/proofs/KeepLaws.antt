@@ -13,7 +13,8 @@ use Rattle.term_spec.proofs.ListLaws.{All, all_snoc}
 use Rattle.term_spec.proofs.ValueLaws.{bracketed-contents}
 use Rattle.match_spec.specs.Element.{Element, lit, opening, closing, call, one, many, Level}
 use Rattle.match_spec.specs.Listing.{guard, enter}
-use Rattle.match_spec.specs.Walk.{Event, hit, tried, reached, Reading, strip, rigid_fits, ends, upto, when, with_head, if_empty, take_first, leave_level, finish_walk, bind_run, top_level, spread, walk, hits}
+use Rattle.match_spec.specs.Walk.{Event, hit, tried, reached, Reading, strip, rigid_fits, ends, upto, when, with_head}
+use Rattle.match_spec.specs.Walk.{if_empty, take_first, leave_level, finish_walk, bind_run, top_level, spread, walk, hits}
 use Rattle.match_spec.proofs.WalkLaws.{strip-sound}
 
 -- A pattern with a Call or Block.
@@ -94,7 +95,8 @@ module _ {R : Type 0} (rd : Reading R) (P : R → Type 0) (D : List (Event (List
   all-bind n x f env (yes h) px a i = all-guard (sames? (rd.cells (get_or env n rd.nothing)) (rd.cells x)) (f env) (i env a)
   all-bind n x f env (no h) px a i = i (env ++ (x ∷ [])) (all_snoc P env x a px)
 
-  all-spread : {Q : Type 0} (d : Dec Q) (e : Bool) (x : R) (p : List (Element ℕ)) (env : List R) (r : R) (f : R → List R → List (Event (List R))) → P r → All P env
+  all-spread : {Q : Type 0} (d : Dec Q) (e : Bool) (x : R) (p : List (Element ℕ)) (env : List R) (r : R) (f : R → List R → List (Event (List R))) → P r
+      → All P env
       → ((q : R) (v : List R) → P q → All P v → D (f q v)) → D (spread rd d e x p env r f)
   unfolding spread
   all-spread (yes h) e x p env r f pr a i =
@@ -102,7 +104,8 @@ module _ {R : Type 0} (rd : Reading R) (P : R → Type 0) (D : List (Event (List
     where
       shorter : (t : Level) → strip (rd.cells x) (rd.cells r) ≡ some t → length (rd.cells x) ≤ length (rd.cells r)
       shorter t z = rw (strip-sound (rd.cells x) (rd.cells r) t z, length-append) (omega arith)
-  all-spread (no h) true x p env r f pr a i = i (rd.back (length (rd.cells r)) r) (env ++ (r ∷ [])) (kept.back_kept _ r (omega arith) pr) (all_snoc P env r a pr)
+  all-spread (no h) true x p env r f pr a i =
+      i (rd.back (length (rd.cells r)) r) (env ++ (r ∷ [])) (kept.back_kept _ r (omega arith) pr) (all_snoc P env r a pr)
   all-spread (no h) false x p env r f pr a i = all-upto _ (length (rd.cells r))
       (λ k le. all-when (rigid_fits p zero (map rd.cells env) (rd.cells (rd.back k r))) _
       (i (rd.back k r) (env ++ (rd.front k r ∷ [])) (kept.back_kept k r le pr) (all_snoc P env (rd.front k r) a (kept.front_kept k r le pr))))
@@ -122,7 +125,8 @@ module _ {R : Type 0} (rd : Reading R) (P : R → Type 0) (D : List (Event (List
   walk_has (closing ∷ p) ls env s a b = all-leave ls _ (λ st q. walk_has p st env s q b) a
   walk_has (call ∷ p) ls env s a b = s tt
   walk_has (one k n ∷ p) ls env s a b = all_first ls _ (λ w c r st e pr q. all-guard (takes? k w) _
-      (all-bind n (rd.front 1 r) _ env (dec_lt n (length env)) (kept.front_kept 1 r (rw e (omega arith)) pr) b (λ v z. walk_has p (rd.back 1 r ∷ st) v s q z))) a
+      (all-bind n (rd.front 1 r) _ env (dec_lt n (length env)) (kept.front_kept 1 r (rw e (omega arith)) pr) b
+      (λ v z. walk_has p (rd.back 1 r ∷ st) v s q z))) a
   walk_has (many n ∷ p) ls env s a b = all-top ls _ (λ r st pr q.
       all-spread (dec_lt n (length env)) (ends p) (get_or env n rd.nothing) p env r _ pr b (λ u v pu pv. walk_has p (u ∷ st) v s (pu, q) pv)) a
 

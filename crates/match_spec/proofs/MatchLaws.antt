@@ -64,7 +64,8 @@ shown-at : (names : List ℕ) (ts : List Term) (p : List (Element ℕ)) (F : Run
     → get_elem? (hits (walk (runs names ts) p (F ∷ []) env)) i ≡ some A
     → get_elem? (candidates p (cells_of names ts F ∷ []) (map (cells_of names ts) env)) i ≡ some (map (cells_of names ts) A)
 shown-at names ts p F env i A valid counted a =
-    ap (λ z. get_elem? z i) (sym (listing-shows names ts p F env valid counted)) ∙ at_map (map (cells_of names ts)) (hits (walk (runs names ts) p (F ∷ []) env)) i a
+    ap (λ z. get_elem? z i) (sym (listing-shows names ts p F env valid counted))
+    ∙ at_map (map (cells_of names ts)) (hits (walk (runs names ts) p (F ∷ []) env)) i a
 
 same_length : {A B C : Type 0} (f : A → C) (g : B → C) (l : List A) (m : List B) → map f l ≡ map g m → length l ≡ length m
 same_length f g l m e = sym (length-map l f) ∙ ap length e ∙ length-map m g

@@ -43,7 +43,8 @@ sorted-each R f (v ∷ l) s h = sorted-append R (f [] (v ∷ l)) (each (λ a b. 
     (sorted-each R (λ a b. f (v ∷ a) b) l (λ a b. s (v ∷ a) b) (λ a b a' b' x y lt. h (v ∷ a) b (v ∷ a') b' x y (omega arith)))
     (λ x y m n. let (a, b, e, k) = mem_each (λ a b. f (v ∷ a) b) l n in h [] (v ∷ l) (v ∷ a) b x y (omega arith) m k)
 
-sorted-first : {B : Type 0} (R : B → B → Type 0) (ls : Levels) (f : Value → Levels → List B) → ((v : Value) (st : Levels) → Sorted R (f v st)) → Sorted R (first ls f)
+sorted-first : {B : Type 0} (R : B → B → Type 0) (ls : Levels) (f : Value → Levels → List B) → ((v : Value) (st : Levels) → Sorted R (f v st))
+    → Sorted R (first ls f)
 unfolding Sorted first
 sorted-first R [] f h = tt
 sorted-first R ([] ∷ st) f h = tt
@@ -81,7 +82,8 @@ many_less : (p : List (Element ℕ)) (n k : ℕ) (A B : Env) → k ≤ n → len
 unfolding Before open_lengths note Lex
 many_less p n k A B le lt = go (dec_lt n k)
   where
-    go : (d : Dec (n < k)) → Lex (note d (length (entry A n)) (open_lengths p (max k (suc n)) A)) (note d (length (entry B n)) (open_lengths p (max k (suc n)) B))
+    go : (d : Dec (n < k))
+        → Lex (note d (length (entry A n)) (open_lengths p (max k (suc n)) A)) (note d (length (entry B n)) (open_lengths p (max k (suc n)) B))
     go (yes h) = absurd (omega arith)
     go (no h) = inl lt
 
@@ -89,7 +91,8 @@ many_same : (p : List (Element ℕ)) (n k : ℕ) (A B : Env) → entry A n ≡ e
 unfolding Before open_lengths note Lex
 many_same p n k A B e r = go (dec_lt n k)
   where
-    go : (d : Dec (n < k)) → Lex (note d (length (entry A n)) (open_lengths p (max k (suc n)) A)) (note d (length (entry B n)) (open_lengths p (max k (suc n)) B))
+    go : (d : Dec (n < k))
+        → Lex (note d (length (entry A n)) (open_lengths p (max k (suc n)) A)) (note d (length (entry B n)) (open_lengths p (max k (suc n)) B))
     go (yes h) = r
     go (no h) = inr (ap length e, r)
 
@@ -108,7 +111,8 @@ many_apart p n env st le counted a b a' b' x y lt m k =
     let v₂ = still e₂ b₂ s₂.keeps in
     go v₁ v₂ (grown e₁ b₁ s₁.keeps) (grown e₂ b₂ s₂.keeps) (dec_lt n (length env))
   where
-    go : entry x n ≡ a → entry y n ≡ a' → (new : Env) × (x ≡ env ++ new) → (new : Env) × (y ≡ env ++ new) → Dec (n < length env) → Before (many n ∷ p) (length env) x y
+    go : entry x n ≡ a → entry y n ≡ a' → (new : Env) × (x ≡ env ++ new) → (new : Env) × (y ≡ env ++ new) → Dec (n < length env)
+        → Before (many n ∷ p) (length env) x y
     go v w g h (yes i) = absurd (let z : length a ≡ length a' = cc (same_known n env i g, same_known n env i h) in omega arith)
     go v w g h (no i) = many_less p n (length env) x y (omega arith) (rw (v, w) lt)
 

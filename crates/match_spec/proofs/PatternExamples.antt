@@ -5,7 +5,9 @@ use Rattle.term_spec.specs.Text.{spec_is_letter, spec_is_digit, spec_is_name_byt
 use Rattle.term_spec.specs.Term.{is_scalar, symbol_rule}
 use Rattle.term_spec.specs.Value.{char, heads?, list?, symbol, term}
 use Rattle.match_spec.specs.Element.{lit, opening, closing, call, one, many}
-use Rattle.match_spec.specs.Pattern.{Item, Binding, name_at, name?, find_here, find, add_if, add, names_after, number, element_k, element, elements, binding_name, binding_names, item_rule_k, close_rule, nest_rule_k, none_open, items_rule, pattern_rule, binding_rule, bindings_rule}
+use Rattle.match_spec.specs.Pattern.{Item, Binding, name_at, name?, find_here, find, add_if, add, names_after, number}
+use Rattle.match_spec.specs.Pattern.{element_k, element, elements, binding_name, binding_names, item_rule_k, close_rule}
+use Rattle.match_spec.specs.Pattern.{nest_rule_k, none_open, items_rule, pattern_rule, binding_rule, bindings_rule}
 
 abbrev it : ℕ → ℕ → ℕ → ℕ → Item
 it kind a b c = record { kind = kind; a = a; b = b; c = c }
@@ -40,7 +42,8 @@ judged =
     -- one of the two points elsewhere
     ∷ refused (it 3 0 0 0 ∷ it 4 0 0 0 ∷ []) ∷ refused (it 3 1 0 0 ∷ it 4 1 0 0 ∷ [])
     -- unused words of Open and Close
-    ∷ refused (it 3 1 1 0 ∷ it 4 0 0 0 ∷ []) ∷ refused (it 3 1 0 1 ∷ it 4 0 0 0 ∷ []) ∷ refused (it 3 1 0 0 ∷ it 4 0 1 0 ∷ []) ∷ refused (it 3 1 0 0 ∷ it 4 0 0 1 ∷ [])
+    ∷ refused (it 3 1 1 0 ∷ it 4 0 0 0 ∷ []) ∷ refused (it 3 1 0 1 ∷ it 4 0 0 0 ∷ []) ∷ refused (it 3 1 0 0 ∷ it 4 0 1 0 ∷ [])
+    ∷ refused (it 3 1 0 0 ∷ it 4 0 0 1 ∷ [])
     -- literals as terms: a Char, x, 9; a surrogate, an Identifier `_`, a Number `x`
     ∷ taken (it 0 97 0 0 ∷ it 1 1 1 0 ∷ it 2 5 1 0 ∷ []) ∷ refused (it 0 55296 0 0 ∷ []) ∷ refused (it 1 4 1 0 ∷ []) ∷ refused (it 2 1 1 0 ∷ [])
     -- variables of each kind named -, _, 9, x, and Xxy-_9; the name `.`, no name, a name past the end, an unused word
@@ -54,7 +57,8 @@ judged =
     ∷ []
 
 judged_patterns : map (λ e. pattern_rule ex_names e.pattern) judged ≡ map (λ e. e.answer) judged
-unfolding spec_is_letter spec_is_digit spec_is_name_byte every identifier_text number_text variable_text text_rule is_scalar symbol_rule item_rule_k close_rule nest_rule_k none_open items_rule pattern_rule
+unfolding spec_is_letter spec_is_digit spec_is_name_byte every identifier_text number_text variable_text text_rule is_scalar symbol_rule item_rule_k close_rule
+    nest_rule_k none_open items_rule pattern_rule
 judged_patterns = refl
 
 -- k brackets, each in the one before, the first Open at record i.
@@ -104,7 +108,8 @@ judged_starts =
     ∷ []
 
 judged-starts : map (λ e. bindings_rule ex_names e.bindings []) judged_starts ≡ map (λ e. e.answer) judged_starts
-unfolding spec_is_letter spec_is_digit spec_is_name_byte every variable_text text_rule lower heads? list? name_at name? find_here find binding_name binding_rule bindings_rule ℕ_discrete
+unfolding spec_is_letter spec_is_digit spec_is_name_byte every variable_text text_rule lower heads? list? name_at name? find_here find binding_name binding_rule
+    bindings_rule ℕ_discrete
 judged-starts = refl
 
 -- ---- names and entries ----

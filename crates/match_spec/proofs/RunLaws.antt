@@ -19,7 +19,8 @@ use Rattle.match_spec.proofs.KeepLaws.{walk-keeps}
 -- ---- how runs read ----
 
 -- A value that is a bracket is a term of kind 3, and its contents are the run of it.
-contents_of : (k : ℕ) (text : List ℕ) (t : Term) (below l : List Value) → contents (value_k k text t below) ≡ some l → (k ≡ 3) × (l ≡ part below (contents_run t))
+contents_of : (k : ℕ) (text : List ℕ) (t : Term) (below l : List Value) → contents (value_k k text t below) ≡ some l
+    → (k ≡ 3) × (l ≡ part below (contents_run t))
 unfolding value_k contents
 contents_of zero text t below l e = absurd (none_some e)
 contents_of (suc zero) text t below l e = absurd (none_some e)
@@ -39,7 +40,8 @@ first_of (x ∷ X) (suc s) n w c d e = let (h, q) = first_of X s n w c d e in (o
 module _ (names : List ℕ) (ts : List Term) where
   -- A run that shows a bracket first starts at a term of kind 3.
   bracket_at : (r : Run) (l c : Level) → cells_of names ts r ≡ bracketed l ∷ c
-      → (r.start < length ts) × ((get_or ts r.start no_term).kind ≡ 3) × (forms (part (take r.start (values names ts)) (contents_run (get_or ts r.start no_term))) ≡ l)
+      → (r.start < length ts) × ((get_or ts r.start no_term).kind ≡ 3)
+      × (forms (part (take r.start (values names ts)) (contents_run (get_or ts r.start no_term))) ≡ l)
   unfolding cells_of values value_of
   bracket_at r l c e =
       let (h, q) = first_of (values names ts) r.start r.len (bracketed l) c (char 0) e in
@@ -53,7 +55,8 @@ module _ (names : List ℕ) (ts : List Term) where
   unfolding cells_of Valid
   inner_shows valid r l c e = let (lt, k, z) = bracket_at r l c e in ap forms (sym (part-below (values names ts) _ _ r.start (valid r.start lt k))) ∙ z
 
-  pub front-shows : (k : ℕ) (r : Run) → k ≤ length (cells_of names ts r) → cells_of names ts (record { start = r.start; len = k }) ≡ take k (cells_of names ts r)
+  pub front-shows : (k : ℕ) (r : Run) → k ≤ length (cells_of names ts r)
+      → cells_of names ts (record { start = r.start; len = k }) ≡ take k (cells_of names ts r)
   unfolding cells_of
   front-shows k r h =
       ap forms (take_within k r.len (drop r.start (values names ts)) (rw length-map at h)) ∙ map-take canon k (take r.len (drop r.start (values names ts)))
@@ -90,7 +93,8 @@ pub inner_inside : (names : List ℕ) (ts : List Term) → Valid ts → (r : Run
 unfolding Valid
 inner_inside names ts valid r l c e = let (lt, k, z) = bracket_at names ts r l c e in omega (arith, valid r.start lt k)
 
-pub walk_inside : (names : List ℕ) (ts : List Term) → Valid ts → (p : List (Element ℕ)) (ls env : List Run) → All (Inside (length ts)) ls → All (Inside (length ts)) env
+pub walk_inside : (names : List ℕ) (ts : List Term) → Valid ts → (p : List (Element ℕ)) (ls env : List Run) → All (Inside (length ts)) ls
+    → All (Inside (length ts)) env
     → All (All (Inside (length ts))) (hits (walk (runs names ts) p ls env))
 walk_inside names ts valid = walk-keeps (runs names ts) (Inside (length ts)) (record {
   front_kept = λ k r le h. omega (arith, cells_few names ts r);

@@ -4,7 +4,9 @@ use Rattle.std.proofs.Math.Decide.{ℕ_discrete, dec_lt}
 use Rattle.term_spec.specs.Value.{Value, char, bracketed, contents, same?, list?, symbol, takes, takes?, decided, takes_row, takes_table, row, column}
 use Rattle.match_spec.specs.Element.{Element, lit, opening, closing, one, many, Level, Env}
 use Rattle.match_spec.specs.Walk.{strip, if_fits, at_head, through, if_known, rigid_fits, when}
-use Rattle.match_spec.specs.RustSplits.{items_from, level_items, if_bound, bound, length_if, determinate_width, keep_if, rigid_prefix, or_zero, run_width, said, unless, with_some, is_some, all_below, same_term, terms_match, item_matches, rigid_run_matches, splits, splits_for, expression_splits}
+use Rattle.match_spec.specs.RustSplits.{items_from, level_items, if_bound, bound, length_if, determinate_width, keep_if}
+use Rattle.match_spec.specs.RustSplits.{rigid_prefix, or_zero, run_width, said, unless, with_some, is_some, all_below, same_term}
+use Rattle.match_spec.specs.RustSplits.{terms_match, item_matches, rigid_run_matches, splits, splits_for, expression_splits}
 
 -- The splits tried with p after an open e-variable and c ahead, by each side. To unfold one is to unfold what its line names.
 by_rust : List (Element ℕ) → Env → Level → List ℕ

@@ -7,7 +7,9 @@ use Rattle.std.proofs.Math.Decide.{ℕ_discrete, dec_lt}
 use Rattle.term_spec.specs.Value.{Value, contents, same?, Single, takes, takes?, decided}
 use Rattle.match_spec.specs.Element.{Element, lit, opening, closing, call, one, many, Level, Env, entry}
 use Rattle.match_spec.specs.Walk.{Event, tried, Reading, strip, if_fits, at_head, through, if_known, rigid_fits, upto, when, spread}
-use Rattle.match_spec.specs.RustSplits.{LevelItem, literal, brackets, single, expression, call_or_block, items_from, level_items, if_bound, bound, length_if, determinate_width, keep_if, rigid_prefix, or_zero, run_width, said, unless, with_some, is_some, all_below, same_term, terms_match, item_matches, rigid_run_matches, splits, splits_for, expression_splits, joined}
+use Rattle.match_spec.specs.RustSplits.{LevelItem, literal, brackets, single, expression, call_or_block, items_from, level_items, if_bound, bound}
+use Rattle.match_spec.specs.RustSplits.{length_if, determinate_width, keep_if, rigid_prefix, or_zero, run_width, said, unless, with_some, is_some}
+use Rattle.match_spec.specs.RustSplits.{all_below, same_term, terms_match, item_matches, rigid_run_matches, splits, splits_for, expression_splits, joined}
 
 -- A run at the front of the terms c, with no position: what lies between the walk's test and that of matcher.rs.
 match_run : List LevelItem → Env → Level → Bool
@@ -168,7 +170,8 @@ run_at [] env c k h = refl
 run_at (literal v ∷ run) env c k h = one_wide c k _ _ _ h (λ q. run_at run env c (k + 1) q)
 run_at (brackets ∷ run) env c k h = one_wide c k _ _ _ h (λ q. run_at run env c (k + 1) q)
 run_at (single s n ∷ run) env c k h = one_wide c k _ _ _ h (λ q. run_at run env c (k + 1) q)
-run_at (expression n ∷ run) env c k h = value_at (bound env n) c k (λ j. rigid_run_matches c j run env) (λ r. match_run run env r) h (λ j q. run_at run env c j q)
+run_at (expression n ∷ run) env c k h =
+    value_at (bound env n) c k (λ j. rigid_run_matches c j run env) (λ r. match_run run env r) h (λ j q. run_at run env c j q)
 run_at (call_or_block ∷ run) env c k h = refl
 
 -- ---- a run needs room for its width; one 0 wide fits everywhere ----

@@ -160,7 +160,8 @@ step_lit : {p : List (Element ℕ)} {v w : Value} {c : Level} {ls st : Levels} {
 unfolding put Ones after on_top
 step_lit e q x = record { keeps = x.keeps; names = x.names; ones = x.ones; gives = cc }
 
-step-open : {p : List (Element ℕ)} {w : Value} {l c : Level} {ls st : Levels} {env B : Env} → w ≡ bracketed l → ls ≡ (w ∷ c) ∷ st → Extends p (l ∷ (c ∷ st)) env B
+step-open : {p : List (Element ℕ)} {w : Value} {l c : Level} {ls st : Levels} {env B : Env} → w ≡ bracketed l → ls ≡ (w ∷ c) ∷ st
+    → Extends p (l ∷ (c ∷ st)) env B
     → Extends (opening ∷ p) ls env B
 unfolding put Ones after wrap
 step-open e q x = record { keeps = x.keeps; names = x.names; ones = x.ones; gives = cc }

@@ -4,11 +4,13 @@ use Rattle.std.proofs.Math.Option.{Option, some, none}
 use Rattle.std.proofs.Math.Decide.{ℕ_discrete, dec_lt}
 use Rattle.term_spec.specs.Table.{table}
 use Rattle.term_spec.specs.Term.{Term, Run}
-use Rattle.term_spec.specs.Value.{Value, char, to_list, from_list, bracketed, contents, value_k, value_of, values, canon, canons, heads?, list?, same?, sames?, takes_table, column, takes_row, symbol, row, takes, decided, takes?}
+use Rattle.term_spec.specs.Value.{Value, char, to_list, from_list, bracketed, contents, value_k, value_of, values, canon, canons}
+use Rattle.term_spec.specs.Value.{heads?, list?, same?, sames?, takes_table, column, takes_row, symbol, row, takes, decided, takes?}
 use Rattle.match_spec.specs.Element.{Element, lit, opening, closing, call, one, many, Level, Env}
 use Rattle.match_spec.specs.Consistent.{note, open_lengths}
 use Rattle.match_spec.specs.Listing.{guard, each, bind_if, bind, first, enter, leave, cuts, finish, candidates}
-use Rattle.match_spec.specs.Walk.{Event, hit, tried, reached, Reading, hits, cells_of, runs, strip, if_fits, at_head, through, if_known, rigid_fits, ends, upto, when, with_head, if_empty, take_first, leave_level, finish_walk, bind_run, top_level, spread, walk}
+use Rattle.match_spec.specs.Walk.{Event, hit, tried, reached, Reading, hits, cells_of, runs, strip, if_fits, at_head, through, if_known, rigid_fits}
+use Rattle.match_spec.specs.Walk.{ends, upto, when, with_head, if_empty, take_first, leave_level, finish_walk, bind_run, top_level, spread, walk}
 use Rattle.match_spec.specs.Answer.{Wanted, allOfThem, headOnly, Progress, started, after_one, write_hit, absorb_one, absorb, spec_slots_in, number_of}
 
 -- Lists of values, read as they stand.
@@ -74,12 +76,15 @@ walked =
     ∷ []
 
 walked-values : map (λ e. walk as_they_stand e.pattern (e.field ∷ []) e.known) walked ≡ map (λ e. e.events) walked
-unfolding inside inside_of to_list from_list bracketed contents heads? list? same? sames? takes_table column takes_row row takes decided takes? guard enter strip if_fits at_head through if_known rigid_fits ends upto when with_head if_empty take_first leave_level finish_walk bind_run top_level spread walk ℕ_discrete dec_lt
+unfolding inside inside_of to_list from_list bracketed contents heads? list? same? sames? takes_table column takes_row row takes decided takes? guard enter
+    strip if_fits at_head through if_known rigid_fits ends upto when with_head if_empty take_first leave_level finish_walk bind_run top_level spread walk
+    ℕ_discrete dec_lt
 walked-values = refl
 
 -- The plain listing has the same candidates in the same order.
 listed_values : map (λ e. candidates e.pattern (e.field ∷ []) e.known) walked ≡ map (λ e. hits e.events) walked
-unfolding to_list from_list bracketed contents heads? list? same? sames? takes_table column takes_row row takes decided takes? guard each bind_if bind first enter leave cuts finish candidates hits ℕ_discrete dec_lt
+unfolding to_list from_list bracketed contents heads? list? same? sames? takes_table column takes_row row takes decided takes? guard each bind_if bind first
+    enter leave cuts finish candidates hits ℕ_discrete dec_lt
 listed_values = refl
 
 -- Candidates are compared by entries 1, 3 and 4: entry 0 is bound before, entry 2 is an s-variable's, and entry 1 counts once.
@@ -117,13 +122,16 @@ walked_runs =
     run_goes (one symbol 0 ∷ []) (rn 1 1 ∷ []) (rn 0 1) (hit (rn 1 1 ∷ []) ∷ []) ∷ run_goes (many 0 ∷ []) (rn 1 1 ∷ []) (rn 0 1) (hit (rn 1 1 ∷ []) ∷ [])
     -- e.1 s.2 on a, e.1 e.2 on a b: empty values have their start too
     ∷ run_goes (many 0 ∷ one symbol 1 ∷ []) [] (rn 0 1) (tried ∷ hit (rn 0 0 ∷ rn 0 1 ∷ []) ∷ [])
-    ∷ run_goes (many 0 ∷ many 1 ∷ []) [] (rn 1 2) (tried ∷ hit (rn 1 0 ∷ rn 1 2 ∷ []) ∷ tried ∷ hit (rn 1 1 ∷ rn 2 1 ∷ []) ∷ tried ∷ hit (rn 1 2 ∷ rn 3 0 ∷ []) ∷ [])
+    ∷ run_goes (many 0 ∷ many 1 ∷ []) [] (rn 1 2)
+    (tried ∷ hit (rn 1 0 ∷ rn 1 2 ∷ []) ∷ tried ∷ hit (rn 1 1 ∷ rn 2 1 ∷ []) ∷ tried ∷ hit (rn 1 2 ∷ rn 3 0 ∷ []) ∷ [])
     -- (e.1) e.2 on (a b): the contents are a part of the store, and what remains is empty after it
     ∷ run_goes (opening ∷ many 0 ∷ closing ∷ many 1 ∷ []) [] (rn 3 1) (hit (rn 1 2 ∷ rn 4 0 ∷ []) ∷ [])
     ∷ []
 
 walked-runs : map (λ e. walk (runs [] store) e.pattern (e.field ∷ []) e.known) walked_runs ≡ map (λ e. e.events) walked_runs
-unfolding table to_list from_list bracketed contents value_k value_of values canon canons heads? list? same? sames? takes_table column takes_row row takes decided takes? cells_of guard enter strip if_fits at_head if_known rigid_fits ends upto when with_head if_empty take_first leave_level finish_walk bind_run top_level spread walk ℕ_discrete dec_lt
+unfolding table to_list from_list bracketed contents value_k value_of values canon canons heads? list? same? sames? takes_table column takes_row row takes
+    decided takes? cells_of guard enter strip if_fits at_head if_known rigid_fits ends upto when with_head if_empty take_first leave_level finish_walk bind_run
+    top_level spread walk ℕ_discrete dec_lt
 walked-runs = refl
 
 -- ---- answers ----
@@ -149,7 +157,8 @@ a_call = tried ∷ reached ∷ tried ∷ []
 abbrev answered : List Answered
 answered =
     -- room for both, for one, for none
-    answers allOfThem 3 two_hits (1 ∷ 2 ∷ []) 0 ∷ answers allOfThem 2 two_hits (1 ∷ 2 ∷ []) 0 ∷ answers allOfThem 1 two_hits (1 ∷ []) 15 ∷ answers allOfThem 0 two_hits [] 15
+    answers allOfThem 3 two_hits (1 ∷ 2 ∷ []) 0 ∷ answers allOfThem 2 two_hits (1 ∷ 2 ∷ []) 0 ∷ answers allOfThem 1 two_hits (1 ∷ []) 15
+    ∷ answers allOfThem 0 two_hits [] 15
     -- first match: the head, and 15 only if no slot fits
     ∷ answers headOnly 3 two_hits (1 ∷ []) 0 ∷ answers headOnly 1 two_hits (1 ∷ []) 0 ∷ answers headOnly 0 two_hits [] 15
     -- no candidate; a call

@@ -14,7 +14,8 @@ use Rattle.term_spec.specs.Value.{Value, bracketed, contents, same?, sames?, tak
 use Rattle.term_spec.proofs.ValueLaws.{contents-bracketed, bracketed-contents}
 use Rattle.match_spec.specs.Element.{Element, lit, opening, closing, call, one, many, Level, Levels, Env, put, Ones, entry}
 use Rattle.match_spec.specs.Listing.{guard, each, bind_if, bind, first, enter, leave, cuts, finish, candidates}
-use Rattle.match_spec.specs.Walk.{Event, hit, tried, reached, Reading, strip, if_fits, at_head, through, if_known, rigid_fits, ends, upto, when, with_head, if_empty, take_first, leave_level, finish_walk, bind_run, top_level, spread, walk, hits}
+use Rattle.match_spec.specs.Walk.{Event, hit, tried, reached, Reading, strip, if_fits, at_head, through, if_known, rigid_fits, ends, upto}
+use Rattle.match_spec.specs.Walk.{when, with_head, if_empty, take_first, leave_level, finish_walk, bind_run, top_level, spread, walk, hits}
 use Rattle.match_spec.proofs.SoundLaws.{Numbered, bound-new, grown, sound}
 use Rattle.match_spec.proofs.CompleteLaws.{on_top_inv, wrap_inv, push_inv}
 
@@ -81,7 +82,8 @@ put-ahead (one k n ∷ p) [] env c st {B} ks os e =
     let (t, q, z) = on_top_inv (entry B n ++◌) (put p (entry B)) e in
     let (w, v, k') = os.0 in
     at_head_lem _ w (z ∙ ap (◌++ t) v) (fits_yes (takes? k w) k' (put-ahead p [] env t st ks os.1 q))
-put-ahead (one k n ∷ p) (x ∷ pre) env c st {B} ks os e = let (t, q, z) = on_top_inv (entry B n ++◌) (put p (entry B)) e in put-ahead p (t ∷ pre) env c st ks os.1 q
+put-ahead (one k n ∷ p) (x ∷ pre) env c st {B} ks os e =
+    let (t, q, z) = on_top_inv (entry B n ++◌) (put p (entry B)) e in put-ahead p (t ∷ pre) env c st ks os.1 q
 put-ahead (many n ∷ p) [] env c st {B} ks os e =
     let (t, q, z) = on_top_inv (entry B n ++◌) (put p (entry B)) e in
     known_yes (dec_lt n (length env))
@@ -94,7 +96,8 @@ strip-sound [] c t e = cc
 strip-sound (v ∷ x) [] t e = cc
 strip-sound (v ∷ x) (w ∷ c) t e = go (same? v w) (strip-sound x c t) e
   where
-    go : (d : Dec (v ≡ w)) → (strip x c ≡ some t → c ≡ x ++ t) → (elim d as (λ z. Option Level) [ yes h ↦ strip x c | no h ↦ none ]) ≡ some t → w ∷ c ≡ v ∷ (x ++ t)
+    go : (d : Dec (v ≡ w)) → (strip x c ≡ some t → c ≡ x ++ t) → (elim d as (λ z. Option Level) [ yes h ↦ strip x c | no h ↦ none ]) ≡ some t
+        → w ∷ c ≡ v ∷ (x ++ t)
     go (yes q) ih k = ap₂ ◌∷◌ (sym q) (ih k)
     go (no q) ih k = cc
 
@@ -268,7 +271,8 @@ module _ {R : Type 0} (rd : Reading R) (ok : Reads rd) where
   longer : (env : List R) (x : R) (n : ℕ) → n ≤ length env → (n < length env → ⊥) → length (env ++ (x ∷ [])) ≡ max (length env) (suc n)
   longer env x n le h = simp length-append (omega arith)
 
-  shows-bind : (n : ℕ) (x : R) (y : Level) (f : List R → List (Event (List R))) (g : Env → List Env) (env : List R) (d : Dec (n < length env)) (d' : Dec (n < length (S env)))
+  shows-bind : (n : ℕ) (x : R) (y : Level) (f : List R → List (Event (List R))) (g : Env → List Env) (env : List R) (d : Dec (n < length env))
+      (d' : Dec (n < length (S env)))
       → n ≤ length env → rd.cells x ≡ y → ((e : List R) → length e ≡ max (length env) (suc n) → shows (f e) ≡ g (S e))
       → shows (bind_run rd n x f env d) ≡ bind_if n y g (S env) d'
   unfolding bind_run bind_if
@@ -290,18 +294,21 @@ module _ {R : Type 0} (rd : Reading R) (ok : Reads rd) where
   shows_split p n st env r new counted ih k le = rw (ok.back_law k r le) (go (rigid_fits p zero (S env) (drop k (rd.cells r))) refl)
     where
       go : (t : Bool) → rigid_fits p zero (S env) (drop k (rd.cells r)) ≡ t
-          → shows (when t (tried ∷ walk rd p (rd.back k r ∷ st) (env ++ (rd.front k r ∷ [])))) ≡ candidates p (drop k (rd.cells r) ∷ S st) (S env ++ (take k (rd.cells r) ∷ []))
+          → shows (when t (tried ∷ walk rd p (rd.back k r ∷ st) (env ++ (rd.front k r ∷ []))))
+          ≡ candidates p (drop k (rd.cells r) ∷ S st) (S env ++ (take k (rd.cells r) ∷ []))
       go true q = ih (rd.back k r ∷ st) (env ++ (rd.front k r ∷ [])) (rw (longer env (rd.front k r) n (omega arith) (λ h. omega arith)) counted)
           ∙ ap₂ (λ c e. candidates p (c ∷ S st) e) (ok.back_law k r le) (S-snoc env (rd.front k r) _ (ok.front_law k r le))
       go false q = sym (skipped p n (take k (rd.cells r)) (drop k (rd.cells r)) (S st) (S env) (rw length-map new) (rw length-map counted) q)
 
   shows-spread : (p : List (Element ℕ)) (n : ℕ) (st env : List R) (r : R) → n ≤ length env → Numbered p (max (length env) (suc n)) → Lists p
       → (d : Dec (n < length env)) (d' : Dec (n < length (S env))) (e : Bool) → ends p ≡ e
-      → shows (spread rd d e (get_or env n rd.nothing) p env r (λ q v. walk rd p (q ∷ st) v)) ≡ each (λ a b. bind_if n a (λ v. candidates p (b ∷ S st) v) (S env) d') (rd.cells r)
+      → shows (spread rd d e (get_or env n rd.nothing) p env r (λ q v. walk rd p (q ∷ st) v))
+      ≡ each (λ a b. bind_if n a (λ v. candidates p (b ∷ S st) v) (S env) d') (rd.cells r)
   unfolding spread bind_if
   shows-spread p n st env r le counted ih (yes h) (no k) e q = absurd (omega (arith, length-map env rd.cells))
   shows-spread p n st env r le counted ih (no h) (yes k) e q = absurd (omega (arith, length-map env rd.cells))
-  shows-spread p n st env r le counted ih (yes h) (yes k) e q = rw S-at (shows-enter (strip (entry (S env) n) (rd.cells r)) _ (λ c. candidates p (c ∷ S st) (S env))
+  shows-spread p n st env r le counted ih (yes h) (yes k) e q =
+      rw S-at (shows-enter (strip (entry (S env) n) (rd.cells r)) _ (λ c. candidates p (c ∷ S st) (S env))
       (λ t z. ih (rd.back (length (entry (S env) n)) r ∷ st) env (let z : length env ≡ max (length env) (suc n) = omega arith in rw z counted)
       ∙ ap (λ c. candidates p (c ∷ S st) (S env)) (rest t z))
       ∙ sym (each_known (entry (S env) n) (rd.cells r) (λ c. candidates p (c ∷ S st) (S env))))
@@ -335,7 +342,8 @@ module _ {R : Type 0} (rd : Reading R) (ok : Reads rd) where
   lists (closing ∷ p) ls env counted = shows-leave ls _ _ (λ st. lists p st env counted)
   lists (call ∷ p) ls env counted = refl
   lists (one k n ∷ p) ls env counted = shows_first ls _ _ (λ w c r st e q. shows-guard (takes? k w) _ _
-      (shows-bind n (rd.front 1 r) (w ∷ []) _ _ env (dec_lt n (length env)) (dec_lt n (length (S env))) counted.0 (ok.front_law 1 r (rw e (omega arith)) ∙ rw e refl)
+      (shows-bind n (rd.front 1 r) (w ∷ []) _ _ env (dec_lt n (length env)) (dec_lt n (length (S env))) counted.0
+      (ok.front_law 1 r (rw e (omega arith)) ∙ rw e refl)
       (λ v z. lists p (rd.back 1 r ∷ st) v (rw z counted.1) ∙ ap (λ z. candidates p (z ∷ S st) (S v)) q)))
   lists (many n ∷ p) ls env counted = shows_many n p ls env counted.0 counted.1 (lists p)
 

@@ -145,11 +145,13 @@ top_level (r ∷ st) f = f r st
 
 -- An e-variable x before the pattern p, at level r: "a bound one must equal the terms ahead"; one "that ends its level takes what remains";
 -- "an open one is tried at splits from 0 upward", those where the rigid run after it fits, "itself still open".
-unfoldable pub spread : {R P : Type 0} → Reading R → Dec P → Bool → R → List (Element ℕ) → List R → R → (R → List R → List (Event (List R))) → List (Event (List R))
+unfoldable pub spread : {R P : Type 0} → Reading R → Dec P → Bool → R → List (Element ℕ) → List R → R → (R → List R → List (Event (List R)))
+    → List (Event (List R))
 spread rd (yes h) e x p env r f = enter (strip (rd.cells x) (rd.cells r)) (λ t. f (rd.back (length (rd.cells x)) r) env)
 spread rd (no h) true x p env r f = f (rd.back (length (rd.cells r)) r) (env ++ (r ∷ []))
 spread rd (no h) false x p env r f =
-    upto (λ k. when (rigid_fits p zero (map rd.cells env) (rd.cells (rd.back k r))) (tried ∷ f (rd.back k r) (env ++ (rd.front k r ∷ [])))) (length (rd.cells r))
+    upto
+    (λ k. when (rigid_fits p zero (map rd.cells env) (rd.cells (rd.back k r))) (tried ∷ f (rd.back k r) (env ++ (rd.front k r ∷ [])))) (length (rd.cells r))
 
 -- The walk over the levels ls (innermost first) and the entries known so far. "Each try goes on to the pattern record after it."
 unfoldable pub walk : {R : Type 0} → Reading R → List (Element ℕ) → List R → List R → List (Event (List R))

@@ -2,20 +2,18 @@
 // left alone by a refusal.
 #![tactic(auto)]
 
-ghost use Rattle.std.specs.Prelude.{◌≡◌, T};
+ghost use Rattle.std.specs.Prelude.{◌≡◌};
 ghost use Rattle.sheet_spec.specs.Sheet.{counts_at, spec_read_sheet};
-ghost use Rattle.sheet_spec.specs.Job.{counted, read_into};
-ghost use Rattle.sheet_form.specs.Form.{as_counts, in_limits};
+ghost use Rattle.sheet_spec.specs.Job.{read_into};
 ghost use Rattle.sheet_write.specs.Write.{written_of};
 ghost use Rattle.equality.specs.Compare.{answer_of as comparedOf};
 ghost use Rattle.view.specs.Check.{answer_of};
-ghost use Rattle.view_read.specs.Read.{verdict_of, flat_of, found_of};
-ghost use Rattle.listing.specs.Match.{matched_of, brought};
+ghost use Rattle.view_read.specs.Read.{verdict_of, flat_of};
+ghost use Rattle.listing.specs.Match.{matched_of};
 ghost use Rattle.outputs.specs.Outputs.{field_out, truth_out, flat_out, list_out, compared_out};
-ghost use Rattle.outputs.specs.SheetOutputs.{written_out, read_outs, counts_out, after_read};
+ghost use Rattle.outputs.specs.SheetOutputs.{written_out, read_outs, after_read};
 
 use listing::Matched;
-use sheet_form::Counts;
 use view::Field;
 use view_read::Flat;
 use words::refusal::Refusal;
@@ -60,29 +58,19 @@ pub fn put_flat(
         (result, in_work.new, start.new, count.new) ≡ told }
 {
     match f {
-        Ok(found) => put_found(found, in_work, start, count),
-        Err(r) => r.number(),
-    }
-}
-
-// Where flatten found or put the terms.
-fn put_found(f: Flat, in_work: &mut usize, start: &mut usize, count: &mut usize) -> usize
-    ensures { let told = flat_out (found_of f) in_work.old start.old count.old in
-        (result, in_work.new, start.new, count.new) ≡ told }
-{
-    match f {
-        Flat::InStore(r) => {
+        Ok(Flat::InStore(r)) => {
             *in_work = 0;
             *start = r.start;
             *count = r.len;
             0
         }
-        Flat::InWork(n) => {
+        Ok(Flat::InWork(n)) => {
             *in_work = 1;
             *start = 0;
             *count = n;
             0
         }
+        Err(r) => r.number(),
     }
 }
 
@@ -92,39 +80,34 @@ pub fn put_list(m: Result<Matched, Refusal>, count: &mut usize, entries: &mut us
         (result, count.new, entries.new) ≡ told }
 {
     match m {
-        Ok(b) => put_brought(b, count, entries),
-        Err(r) => r.number(),
-    }
-}
-
-// What a listing brings.
-fn put_brought(m: Matched, count: &mut usize, entries: &mut usize) -> usize
-    ensures { let told = list_out (brought m) count.old entries.old in
-        (result, count.new, entries.new) ≡ told }
-{
-    match m {
-        Matched::Listed {
-            count: c,
-            entries: k,
-        } => {
+        Ok(
+            Matched::Listed {
+                count: c,
+                entries: k,
+            },
+        ) => {
             *count = c;
             *entries = k;
             0
         }
-        Matched::More {
-            count: c,
-            entries: k,
-        } => {
+        Ok(
+            Matched::More {
+                count: c,
+                entries: k,
+            },
+        ) => {
             *count = c;
             *entries = k;
             Refusal::MoreThanFit.number()
         }
+        Err(r) => r.number(),
     }
 }
 
 // ---- sheets ----
 
 // Of a call that writes a text.
+#[tactic(auto, unfolding(sheet_write::specs::Write::written_of, words::specs::Refusals::told, crate::specs::SheetOutputs::written_out))]
 pub fn put_written(w: Result<usize, Refusal>, written: &mut usize) -> usize
     ensures { (result, written.new) ≡ written_out (written_of w) written.old }
 {
@@ -135,30 +118,6 @@ pub fn put_written(w: Result<usize, Refusal>, written: &mut usize) -> usize
         }
         Err(r) => r.number(),
     }
-}
-
-// The counts of a sheet that was read, and where its name bytes start.
-fn put_counts(
-    c: Counts,
-    term_count: &mut usize,
-    name_start: &mut usize,
-    name_count: &mut usize,
-    pattern_count: &mut usize,
-    run_count: &mut usize,
-) -> usize
-    requires { T (in_limits (as_counts c)) }
-    ensures { let before3 = read_outs term_count.old name_start.old name_count.old in
-        let before = before3 pattern_count.old run_count.old in
-        let after3 = read_outs term_count.new name_start.new name_count.new in
-        let after = after3 pattern_count.new run_count.new in
-        (result, after) ≡ counts_out (counted (as_counts c)) before }
-{
-    *term_count = c.terms;
-    *name_start = c.names_start();
-    *name_count = c.names;
-    *pattern_count = c.pattern;
-    *run_count = c.runs;
-    0
 }
 
 // Reads a sheet. The names stay in the text.
@@ -173,25 +132,20 @@ pub fn read_sheet(
     pattern_count: &mut usize,
     run_count: &mut usize,
 ) -> usize
-    ensures { let before3 = read_outs term_count.old name_start.old name_count.old in
-        let before = before3 pattern_count.old run_count.old in
-        let after3 = read_outs term_count.new name_start.new name_count.new in
-        let after = after3 pattern_count.new run_count.new in
-        let read = read_into (spec_read_sheet text.now) (counts_at text.now) in
-        let words = read terms.old pattern.old runs.old in
-        ((result, after), terms.new, pattern.new, runs.new) ≡ after_read words before }
+    ensures { let before = read_outs term_count.old name_start.old name_count.old pattern_count.old run_count.old in
+        let after = read_outs term_count.new name_start.new name_count.new pattern_count.new run_count.new in
+        let read = read_into (spec_read_sheet text.now) (counts_at text.now) terms.old pattern.old runs.old in
+        ((result, after), terms.new, pattern.new, runs.new) ≡ after_read read before }
 {
     match sheet_read::read_sheet(text, terms, pattern, runs) {
-        Err(r) => r.number(),
         Ok(c) => {
-            put_counts(
-                c,
-                term_count,
-                name_start,
-                name_count,
-                pattern_count,
-                run_count,
-            )
+            *term_count = c.terms;
+            *name_start = c.names_start();
+            *name_count = c.names;
+            *pattern_count = c.pattern;
+            *run_count = c.runs;
+            0
         }
+        Err(r) => r.number(),
     }
 }

@@ -24,7 +24,8 @@ module _ (a : Answer) {x : After} {s : Store} where
   truth_left old e p = ap (λ (v : ℕ × ℕ). (v, s)) p ∙ ap (λ (z : After). after_truth z old) e
 
 module _ (a : Answer) {x : After} {s : Store} {w : List ℕ} where
-  pub flat_left : {t : ℕ × ℕ × ℕ × ℕ} (i b c : ℕ) → leaves_work a s w ≡ x → t ≡ flat_out a i b c → ◌≡◌ {A = (ℕ × ℕ × ℕ × ℕ) × Store × List ℕ} (t, s, w) (after_flat x i b c)
+  pub flat_left : {t : ℕ × ℕ × ℕ × ℕ} (i b c : ℕ) → leaves_work a s w ≡ x → t ≡ flat_out a i b c
+      → ◌≡◌ {A = (ℕ × ℕ × ℕ × ℕ) × Store × List ℕ} (t, s, w) (after_flat x i b c)
   unfolding leaves_work after_flat
   flat_left i b c e p = ap (λ (v : ℕ × ℕ × ℕ × ℕ). (v, s, w)) p ∙ ap (λ (z : After). after_flat z i b c) e
 
@@ -41,3 +42,6 @@ pub write-left : (a : SheetAnswer) {x : SheetAnswer × List ℕ} {t : ℕ × ℕ
     → t ≡ written_out a old → ◌≡◌ {A = (ℕ × ℕ) × List ℕ} (t, o) (after_write x old)
 unfolding after_write
 write-left a {x} {t} {o} old e p = ap (λ (v : ℕ × ℕ). (v, o)) p ∙ ap (λ (z : SheetAnswer × List ℕ). after_write z old) e
+
+-- By which the check finds that an export tells what its call does.
+pub ruleset exports = (field-left, truth_left, flat_left, list_left)

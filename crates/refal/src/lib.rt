@@ -1,5 +1,5 @@
 // The library for C and Rust: each public call with its answer as document 01's number, and its values in out parameters.
-#![tactic(auto)]
+#![tactic(auto, using(crate::specs::ExportLaws::exports), unfolding(outputs::specs::SheetOutputs::after_write))]
 
 ghost use Rattle.std.specs.Prelude.{◌≡◌};
 ghost use Rattle.match_spec.specs.Answer.{allOfThem, headOnly};
@@ -60,14 +60,8 @@ pub extern "C" fn naldrev_join(
         let did = step before (call_join (field_of left_node left_len) (field_of right_node right_len)) in
         ((result, node.new, len.new), after) ≡ after_field did node.old len.old }
 {
-    let left = Field {
-        node: left_node,
-        len: left_len,
-    };
-    let right = Field {
-        node: right_node,
-        len: right_len,
-    };
+    let left = Field::new(left_node, left_len);
+    let right = Field::new(right_node, right_len);
     let joined = view::join(names, terms, terms_used, nodes, nodes_used, left, right);
     outputs::put_field(joined, node, len)
 }
@@ -90,10 +84,7 @@ pub extern "C" fn naldrev_take(
         let did = step before (call_take (field_of field_node field_len) count) in
         ((result, node.new, len.new), before) ≡ after_field did node.old len.old }
 {
-    let f = Field {
-        node: field_node,
-        len: field_len,
-    };
+    let f = Field::new(field_node, field_len);
     let taken = view::take(names, terms, terms_used, nodes, nodes_used, f, count);
     outputs::put_field(taken, node, len)
 }
@@ -117,10 +108,7 @@ pub extern "C" fn naldrev_rest(
         let did = step before (call_rest (field_of field_node field_len) count) in
         ((result, node.new, len.new), after) ≡ after_field did node.old len.old }
 {
-    let f = Field {
-        node: field_node,
-        len: field_len,
-    };
+    let f = Field::new(field_node, field_len);
     let dropped = view::rest(names, terms, terms_used, nodes, nodes_used, f, count);
     outputs::put_field(dropped, node, len)
 }
@@ -145,10 +133,7 @@ pub extern "C" fn naldrev_range(
         let did = step before (call_range (field_of field_node field_len) start count) in
         ((result, node.new, len.new), after) ≡ after_field did node.old len.old }
 {
-    let f = Field {
-        node: field_node,
-        len: field_len,
-    };
+    let f = Field::new(field_node, field_len);
     let ranged = view::range(names, terms, terms_used, nodes, nodes_used, f, start, count);
     outputs::put_field(ranged, node, len)
 }
@@ -173,14 +158,8 @@ pub extern "C" fn naldrev_starts_with(
         let did = step before (call_starts_with (field_of field_node field_len) (field_of front_node front_len)) in
         ((result, yes.new), before) ≡ after_truth did yes.old }
 {
-    let f = Field {
-        node: field_node,
-        len: field_len,
-    };
-    let front = Field {
-        node: front_node,
-        len: front_len,
-    };
+    let f = Field::new(field_node, field_len);
+    let front = Field::new(front_node, front_len);
     let starts = view_read::starts_with(names, terms, terms_used, nodes, nodes_used, f, front);
     outputs::put_truth(starts, yes)
 }
@@ -203,14 +182,8 @@ pub extern "C" fn naldrev_equal(
         let did = step before (call_equal (field_of left_node left_len) (field_of right_node right_len)) in
         ((result, yes.new), before) ≡ after_truth did yes.old }
 {
-    let left = Field {
-        node: left_node,
-        len: left_len,
-    };
-    let right = Field {
-        node: right_node,
-        len: right_len,
-    };
+    let left = Field::new(left_node, left_len);
+    let right = Field::new(right_node, right_len);
     let same = view_read::equal(names, terms, terms_used, nodes, nodes_used, left, right);
     outputs::put_truth(same, yes)
 }
@@ -235,10 +208,7 @@ pub extern "C" fn naldrev_flatten(
         let told = after_flat did in_work.old start.old count.old in
         ((result, in_work.new, start.new, count.new), before, work.new) ≡ told }
 {
-    let f = Field {
-        node: field_node,
-        len: field_len,
-    };
+    let f = Field::new(field_node, field_len);
     let flat = view_read::flatten(names, terms, terms_used, nodes, nodes_used, f, work);
     outputs::put_flat(flat, in_work, start, count)
 }
@@ -302,10 +272,7 @@ pub extern "C" fn naldrev_match_pattern_with_bindings_candidates(
         let did = step before (call_match allOfThem request) in
         ((result, count.new, entries.new), after, slots.new) ≡ after_list did count.old entries.old }
 {
-    let f = Field {
-        node: field_node,
-        len: field_len,
-    };
+    let f = Field::new(field_node, field_len);
     let listed = listing::match_pattern_with_bindings_candidates(
         names, terms, terms_used, nodes, nodes_used, f, pattern, bindings, slots,
     );
@@ -334,10 +301,7 @@ pub extern "C" fn naldrev_match_pattern_first(
         let did = step before (call_match headOnly request) in
         ((result, count.new, entries.new), after, slots.new) ≡ after_list did count.old entries.old }
 {
-    let f = Field {
-        node: field_node,
-        len: field_len,
-    };
+    let f = Field::new(field_node, field_len);
     let head = listing::match_pattern_first(
         names, terms, terms_used, nodes, nodes_used, f, pattern, bindings, slots,
     );
@@ -359,13 +323,10 @@ pub extern "C" fn naldrev_read_sheet(
     pattern_count: &mut usize,
     run_count: &mut usize,
 ) -> usize
-    ensures { let before3 = read_outs term_count.old name_start.old name_count.old in
-        let before = before3 pattern_count.old run_count.old in
-        let after3 = read_outs term_count.new name_start.new name_count.new in
-        let after = after3 pattern_count.new run_count.new in
-        let read = read_into (spec_read_sheet text.now) (counts_at text.now) in
-        let words = read terms.old pattern.old runs.old in
-        ((result, after), terms.new, pattern.new, runs.new) ≡ after_read words before }
+    ensures { let before = read_outs term_count.old name_start.old name_count.old pattern_count.old run_count.old in
+        let after = read_outs term_count.new name_start.new name_count.new pattern_count.new run_count.new in
+        let read = read_into (spec_read_sheet text.now) (counts_at text.now) terms.old pattern.old runs.old in
+        ((result, after), terms.new, pattern.new, runs.new) ≡ after_read read before }
 {
     outputs::read_sheet(
         text,

@@ -9,7 +9,8 @@ use Rattle.view_spec.specs.Node.{Field}
 use Rattle.match_spec.specs.Pattern.{item_layout, binding_layout, name_limit, elements, binding_names, names_after, pattern_rule, bindings_rule}
 use Rattle.match_spec.specs.Answer.{allOfThem}
 use Rattle.calls_spec.specs.Store.{Store}
-use Rattle.calls_spec.specs.Step.{Request, Call, call_match, Answer, refused, built, listed, answer_number, effect_of, slots_of, After, step, names_rule, spec_name_count}
+use Rattle.calls_spec.specs.Step.{Request, Call, call_match, Answer, refused, built, listed, answer_number}
+use Rattle.calls_spec.specs.Step.{effect_of, slots_of, After, step, names_rule, spec_name_count}
 use Rattle.sheet_spec.specs.Sheet.{line}
 use Rattle.sheet_spec.specs.Job.{listing_slots, laid, laid_at, SheetAnswer, refused_sheet, wrote, written, refusal_text, entry_lines, listing_text, Fits}
 use Rattle.sheet_spec.proofs.LineLaws.{line-length}
@@ -64,17 +65,21 @@ entries_snoc k slots i (suc n) =
     ∙ sym (append_assoc (entry_line k slots i) (entry_lines k slots (suc i) n) (entry_line k slots (i + suc n)))
 
 -- A turn of the loop: the next line is laid after those that are there.
-pub entries_step : (k : ℕ) (slots old mid new : List ℕ) (i : ℕ) → line_bytes + line_bytes * i + line_bytes ≤ length old → mid ≡ laid_at old line_bytes (entry_lines k slots 0 i)
+pub entries_step : (k : ℕ) (slots old mid new : List ℕ) (i : ℕ) → line_bytes + line_bytes * i + line_bytes ≤ length old
+    → mid ≡ laid_at old line_bytes (entry_lines k slots 0 i)
     → new ≡ laid_at mid (line_bytes + line_bytes * i) (entry_line k slots i) → new ≡ laid_at old line_bytes (entry_lines k slots 0 (i + 1))
 entries_step k slots old mid new i h e f =
     let z : 0 + i ≡ i = omega arith in
     let n : suc i ≡ i + 1 = omega arith in
     f ∙ ap (λ x. laid_at x (line_bytes + line_bytes * i) (entry_line k slots i)) e
-    ∙ laid_at_next old line_bytes (line_bytes + line_bytes * i) (entry_lines k slots 0 i) (entry_line k slots i) (omega (arith, entries_length k slots 0 i)) (omega arith)
-    ∙ ap (laid_at old line_bytes) (ap (λ x. entry_lines k slots 0 i ++ entry_line k slots x) (sym z) ∙ sym (entries_snoc k slots 0 i) ∙ ap (entry_lines k slots 0) n)
+    ∙ laid_at_next old line_bytes (line_bytes + line_bytes * i) (entry_lines k slots 0 i) (entry_line k slots i) (omega (arith, entries_length k slots 0 i))
+    (omega arith)
+    ∙ ap (laid_at old line_bytes)
+    (ap (λ x. entry_lines k slots 0 i ++ entry_line k slots x) (sym z) ∙ sym (entries_snoc k slots 0 i) ∙ ap (entry_lines k slots 0) n)
 
 -- The length stays.
-pub entries_kept : (k : ℕ) (slots old mid : List ℕ) (i : ℕ) → line_bytes + line_bytes * i ≤ length old → mid ≡ laid_at old line_bytes (entry_lines k slots 0 i) → length mid ≡ length old
+pub entries_kept : (k : ℕ) (slots old mid : List ℕ) (i : ℕ) → line_bytes + line_bytes * i ≤ length old → mid ≡ laid_at old line_bytes (entry_lines k slots 0 i)
+    → length mid ≡ length old
 entries_kept k slots old mid i h e = ap length e ∙ laid_at-length old line_bytes (entry_lines k slots 0 i) (omega (arith, entries_length k slots 0 i))
 
 -- ---- what is printed ----
@@ -94,7 +99,8 @@ listing-length n c k slots =
     ∙ omega (arith, line-length (n ∷ c ∷ k ∷ 0 ∷ []), entries_length k slots 0 (c * k))
 
 -- The first line, then the entries.
-pub listing-written : (n c k : ℕ) (slots old mid new : List ℕ) → line_bytes + line_bytes * (c * k) ≤ length old → mid ≡ laid_at old 0 (line (n ∷ c ∷ k ∷ 0 ∷ []))
+pub listing-written : (n c k : ℕ) (slots old mid new : List ℕ) → line_bytes + line_bytes * (c * k) ≤ length old
+    → mid ≡ laid_at old 0 (line (n ∷ c ∷ k ∷ 0 ∷ []))
     → new ≡ laid_at mid line_bytes (entry_lines k slots 0 (c * k)) → (wrote (line_bytes + line_bytes * (c * k)), new) ≡ written (listing_lines n c k slots) old
 listing-written n c k slots old mid new h e f =
     fit_written (listing_lines n c k slots) old new (line_bytes + line_bytes * (c * k)) (sym (listing-length n c k slots)) h
@@ -148,14 +154,16 @@ sixteen_slots names p n e =
     first-zeros (name_words * n) (name_words * name_limit) (omega (arith, count_few names p [])) ∙ ap zeros z
 
 -- As many words of slots are lent as there are entries.
-pub sixteen_words : (names p : List ℕ) (n : ℕ) → n ≡ spec_name_count names p [] → length (take (name_words * n) (zeros (name_words * name_limit))) ≡ name_words * spec_name_count names p []
+pub sixteen_words : (names p : List ℕ) (n : ℕ) → n ≡ spec_name_count names p []
+    → length (take (name_words * n) (zeros (name_words * name_limit))) ≡ name_words * spec_name_count names p []
 sixteen_words names p n e = ap length (sixteen_slots names p n e) ∙ length-replicate {A = ℕ} (listing_slots * (2 * spec_name_count names p [])) 0 ∙ omega arith
 
 -- For lending those.
 pub ruleset slot_rules = (count_few, sixteen_words)
 
 -- `from_runs` was refused.
-pub runs-refused : (names p : List ℕ) (s t : Store) (c : Call) (a : Answer) (n : ℕ) → leaves a t ≡ step s c → a ≡ refused n → refusal_text n ≡ built_text names p (step s c)
+pub runs-refused : (names p : List ℕ) (s t : Store) (c : Call) (a : Answer) (n : ℕ) → leaves a t ≡ step s c → a ≡ refused n
+    → refusal_text n ≡ built_text names p (step s c)
 unfolding leaves built_text built_by effect_of answer_number
 runs-refused names p s t c a n e f = sym (ap (λ (x : Answer). built_text names p (leaves x t)) f) ∙ ap (built_text names p) e
 

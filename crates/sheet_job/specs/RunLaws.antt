@@ -12,7 +12,8 @@ use Rattle.term_spec.specs.Words.{count}
 use Rattle.term_spec.specs.Term.{term_layout}
 use Rattle.calls_spec.specs.Store.{Store}
 use Rattle.calls_spec.specs.Step.{call_from_runs, Effect, quiet, making, step}
-use Rattle.sheet_spec.specs.Sheet.{Sheet, term_columns, item_columns, run_columns, run_zeros, Counts, limits, counts_at, spec_names_start, head_rule, body_rule, sheet_at, spec_read_sheet}
+use Rattle.sheet_spec.specs.Sheet.{Sheet, term_columns, item_columns, run_columns, run_zeros, Counts, limits}
+use Rattle.sheet_spec.specs.Sheet.{counts_at, spec_names_start, head_rule, body_rule, sheet_at, spec_read_sheet}
 use Rattle.sheet_spec.specs.Job.{padded, lent_store, lent_request, match_on, match_text, job_text, answer_text, refusal_text}
 use Rattle.sheet_spec.specs.Job.{laid, spec_names_part, SheetAnswer, refused_sheet, wrote, counted, AfterSheet, unread, read_into}
 use Rattle.sheet_spec.proofs.LineLaws.{words_length}
@@ -29,7 +30,8 @@ unfolding built_by match_on listed_text lent_request
 match_built s quiet n t = refl
 match_built s (making f) n t = refl
 
-job_built : (text : List ℕ) (s : Sheet) → spec_read_sheet text ≡ some s → built_text s.names s.pattern (step (lent_store s) (call_from_runs s.runs)) ≡ answer_text text
+job_built : (text : List ℕ) (s : Sheet) → spec_read_sheet text ≡ some s
+    → built_text s.names s.pattern (step (lent_store s) (call_from_runs s.runs)) ≡ answer_text text
 unfolding built_text answer_text job_text match_text
 job_built text s e = match_built s _ _ _ ∙ ap job_text (sym e)
 
@@ -66,7 +68,8 @@ names_there text c f =
     let n : leb (spec_names_start c + c.names) (length text) ≡ true = le-leb (spec_names_start c + c.names) (length text) (omega (arith, f.size)) in
     ap₂ (λ (x y : Bool). elim (x && y) [ true ↦ take c.names (drop (spec_names_start c) text) | false ↦ [] ]) l n
 
-sheet_facts : (text : List ℕ) → head_rule text (counts_at text) && body_rule text (counts_at text) ≡ true → SheetRead text (counts_at text) (sheet_at text (counts_at text))
+sheet_facts : (text : List ℕ) → head_rule text (counts_at text) && body_rule text (counts_at text) ≡ true
+    → SheetRead text (counts_at text) (sheet_at text (counts_at text))
 unfolding sheet_at
 sheet_facts text e =
     let c = counts_at text in
@@ -89,13 +92,19 @@ into_zeros o c = read_into o c (zeros term_words) (zeros pattern_words) (zeros r
 
 -- the lent arrays are long enough
 read_all : (text : List ℕ) (c : Counts) (s : Sheet) → SheetRead text c s → into_zeros (spec_read_sheet text) c
-    ≡ record { answer = counted c; terms = laid s.terms (zeros term_words); pattern = laid s.pattern (zeros pattern_words); runs = laid s.runs (zeros run_words) }
+    ≡ record {
+      answer = counted c;
+      terms = laid s.terms (zeros term_words);
+      pattern = laid s.pattern (zeros pattern_words);
+      runs = laid s.runs (zeros run_words);
+    }
 unfolding read_into
 read_all text c s k =
     let a = le-leb (length s.terms) (length (zeros term_words)) (omega (arith, k.size_terms, k.few_terms, length-replicate {A = ℕ} term_words 0)) in
     let b = le-leb (length s.pattern) (length (zeros pattern_words)) (omega (arith, k.size_pattern, k.few_pattern, length-replicate {A = ℕ} pattern_words 0)) in
     let d = le-leb (length s.runs) (length (zeros run_words)) (omega (arith, k.size_runs, k.few_runs, length-replicate {A = ℕ} run_words 0)) in
-    let fit : leb (length s.terms) (length (zeros term_words)) && leb (length s.pattern) (length (zeros pattern_words)) && leb (length s.runs) (length (zeros run_words)) ≡ true =
+    let fit : leb (length s.terms) (length (zeros term_words)) && leb (length s.pattern) (length (zeros pattern_words))
+    && leb (length s.runs) (length (zeros run_words)) ≡ true =
     simp (a, b, d) in
     ap (λ o. into_zeros o c) k.is ∙ ap (read_by c s (zeros term_words) (zeros pattern_words) (zeros run_words)) fit
 
@@ -130,7 +139,8 @@ parts_job : (s : Sheet) → parts_text s.names s.pattern (padded term_words s.te
 unfolding lent_store
 parts_job s = refl
 
-parts_same : {names names' p p' t t' r r' : List ℕ} {n n' : ℕ} → names ≡ names' → p ≡ p' → t ≡ t' → n ≡ n' → r ≡ r' → parts_text names p t n r ≡ parts_text names' p' t' n' r'
+parts_same : {names names' p p' t t' r r' : List ℕ} {n n' : ℕ} → names ≡ names' → p ≡ p' → t ≡ t' → n ≡ n' → r ≡ r'
+    → parts_text names p t n r ≡ parts_text names' p' t' n' r'
 parts_same {names} {names'} {p} {p'} {t} {t'} {r} {r'} {n} {n'} a b c d e =
     ap (λ x. parts_text x p t n r) a ∙ ap (λ x. parts_text names' x t n r) b ∙ ap (λ x. parts_text names' p' x n r) c ∙ ap (λ x. parts_text names' p' t' x r) d
     ∙ ap (parts_text names' p' t' n') e
@@ -146,7 +156,9 @@ module _ (text : List ℕ) (a : SheetAnswer) (t p r : List ℕ) (left : leaves_s
   run-refused n e = go (head_rule text (counts_at text) && body_rule text (counts_at text)) refl
     where
       go : (x : Bool) → head_rule text (counts_at text) && body_rule text (counts_at text) ≡ x → refusal_text n ≡ answer_text text
-      go true h = absurd (let z : suc n ≡ 0 = ap refusal_in (sym e) ∙ ap (λ (q : AfterSheet). refusal_in q.answer) (left ∙ read_all text (counts_at text) _ (sheet_facts text h)) in omega (arith, z))
+      go true h = absurd
+          (let z : suc n ≡ 0 = ap refusal_in (sym e)
+          ∙ ap (λ (q : AfterSheet). refusal_in q.answer) (left ∙ read_all text (counts_at text) _ (sheet_facts text h)) in omega (arith, z))
       go false h =
           let i : spec_read_sheet text ≡ none = read_none text h in
           let z : suc n ≡ 17 = ap refusal_in (sym e) ∙ ap (λ (q : AfterSheet). refusal_in q.answer) (left ∙ ap (λ o. into_zeros o (counts_at text)) i) in
@@ -159,7 +171,8 @@ module _ (text : List ℕ) (a : SheetAnswer) (t p r : List ℕ) (left : leaves_s
     unfolding leaves_sheet read_into unread counts_in refusal_in
     facts = go (head_rule text (counts_at text) && body_rule text (counts_at text)) refl
       where
-        go : (x : Bool) → head_rule text (counts_at text) && body_rule text (counts_at text) ≡ x → (c ≡ counts_at text) × SheetRead text (counts_at text) (sheet_at text (counts_at text))
+        go : (x : Bool) → head_rule text (counts_at text) && body_rule text (counts_at text) ≡ x
+            → (c ≡ counts_at text) × SheetRead text (counts_at text) (sheet_at text (counts_at text))
         go true h =
             let k = sheet_facts text h in
             (ap (λ q. counts_in q c) (sym e) ∙ ap (λ (q : AfterSheet). counts_in q.answer c) (left ∙ read_all text (counts_at text) _ k), k)
@@ -193,7 +206,8 @@ module _ (text : List ℕ) (a : SheetAnswer) (t p r : List ℕ) (left : leaves_s
         let x = ap (λ (d : Counts). d.pattern) q in
         let y = ap (λ (d : Counts). d.runs) q in
         let n1 : spec_names_part text c ≡ s.names = ap (spec_names_part text) q ∙ k.names in
-        let n3 : t ≡ padded term_words s.terms = ap (λ (z : AfterSheet). z.terms) (left ∙ read_all text (counts_at text) s k) ∙ laid-padded s.terms term_words in
+        let n3 : t ≡ padded term_words s.terms =
+        ap (λ (z : AfterSheet). z.terms) (left ∙ read_all text (counts_at text) s k) ∙ laid-padded s.terms term_words in
         let n4 : c.terms ≡ count term_layout s.terms = counted_terms s.terms c.terms (omega (arith, k.size_terms, ap (λ (d : Counts). d.terms) q)) in
         record {
           few_pattern = omega (arith, x, k.few_pattern);

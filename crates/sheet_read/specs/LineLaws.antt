@@ -140,7 +140,8 @@ module _ (text : List ℕ) (p i : ℕ) (out₀ : List ℕ) (w : ℕ) where
       {out new : List ℕ} {x : ℕ} → w + i < length out₀ → out ≡ laid_at out₀ w (numbers_at text p i) → x ≡ number_at text (p + column_width * i)
       → new ≡ set out (w + i) x → new ≡ laid_at out₀ w (numbers_at text p (i + 1))
   numbers_set h e f g =
-      g ∙ ap₂ (λ o y. set o (w + i) y) e f ∙ laid_at-snoc out₀ w (w + i) (numbers_at text p i) (number_at text (p + column_width * i)) (ap (w +◌) (sym (numbers_length text p i))) h
+      g ∙ ap₂ (λ o y. set o (w + i) y) e f
+      ∙ laid_at-snoc out₀ w (w + i) (numbers_at text p i) (number_at text (p + column_width * i)) (ap (w +◌) (sym (numbers_length text p i))) h
       ∙ ap (laid_at out₀ w) (rw add-one (sym (numbers_more text p i)))
 
   pub numbers_all : (k : ℕ) {out : List ℕ} → i ≤ k → k ≤ i → out ≡ laid_at out₀ w (numbers_at text p i) → out ≡ laid_at out₀ w (numbers_at text p k)
@@ -176,7 +177,8 @@ module _ (text : List ℕ) (kept zeros : ℕ) where
   lines_start p n = let z : n ≡ n - 0 = omega arith in ap (spec_lines_ok text p kept zeros) z
 
   module _ (p at n i : ℕ) (e : spec_lines_ok text p kept zeros n ≡ spec_lines_ok text at kept zeros (n - i)) where
-    lines_left : i < n → spec_lines_ok text at kept zeros (n - i) ≡ spec_line_ok text at kept zeros && spec_lines_ok text (at + line_width kept zeros) kept zeros (n - (i + 1))
+    lines_left : i < n
+        → spec_lines_ok text at kept zeros (n - i) ≡ spec_line_ok text at kept zeros && spec_lines_ok text (at + line_width kept zeros) kept zeros (n - (i + 1))
     unfolding spec_lines_ok
     lines_left h = let z : n - i ≡ suc (n - (i + 1)) = omega arith in rw z
 
@@ -231,7 +233,8 @@ module _ (text : List ℕ) (kept zeros : ℕ) where
       rw z (line_numbers p (both_of (spec_line_ok text p kept zeros) (spec_lines_ok text (p + line_width kept zeros) kept zeros n) t).0)
   line_in p (suc n) (suc i) t h =
       let z : p + line_width kept zeros * suc i ≡ p + line_width kept zeros + line_width kept zeros * i = omega arith in
-      rw z (line_in (p + line_width kept zeros) n i (both_of (spec_line_ok text p kept zeros) (spec_lines_ok text (p + line_width kept zeros) kept zeros n) t).1 (omega arith))
+      rw z (line_in (p + line_width kept zeros) n i (both_of (spec_line_ok text p kept zeros) (spec_lines_ok text (p + line_width kept zeros) kept zeros n) t).1
+      (omega arith))
 
   pub line_at : (p at n i : ℕ) → T (spec_lines_ok text p kept zeros n) → i < n → at ≡ p + line_width kept zeros * i → T (numbers_ok text at kept)
   line_at p at n i t h e = rw e (line_in p n i t h)
@@ -255,22 +258,27 @@ module _ (text : List ℕ) (kept zeros : ℕ) where
   words_kept p i out₀ h = laid-length (words_at text p kept zeros i) out₀ (omega (arith, words_length text p kept zeros i))
 
   pub words_room :
-      (p w n i : ℕ) (out₀ : List ℕ) {out : List ℕ} → i < n → kept * n ≤ length out₀ → w ≡ kept * i → out ≡ laid (words_at text p kept zeros i) out₀ → w + kept ≤ length out
+      (p w n i : ℕ) (out₀ : List ℕ) {out : List ℕ} → i < n → kept * n ≤ length out₀ → w ≡ kept * i → out ≡ laid (words_at text p kept zeros i) out₀
+      → w + kept ≤ length out
   words_room p w n i out₀ h k b e =
       let l : kept * i + kept ≤ length out₀ = part_at kept n i _ h k in
       omega (arith, ap length e ∙ words_kept p i out₀ (omega arith))
 
   pub words_set_lem :
-      (p at w i : ℕ) (out₀ : List ℕ) {out new : List ℕ} → kept * i + kept ≤ length out₀ → at ≡ p + line_width kept zeros * i → w ≡ kept * i → out ≡ laid (words_at text p kept zeros i) out₀
+      (p at w i : ℕ) (out₀ : List ℕ) {out new : List ℕ} → kept * i + kept ≤ length out₀ → at ≡ p + line_width kept zeros * i → w ≡ kept * i
+      → out ≡ laid (words_at text p kept zeros i) out₀
       → new ≡ laid_at out w (numbers_at text at kept) → new ≡ laid (words_at text p kept zeros (i + 1)) out₀
   words_set_lem p at w i o h a b e g =
       let (x, y) : List ℕ × List ℕ = (words_at text p kept zeros i, numbers_at text (p + line_width kept zeros * i) kept) in
       g ∙ rw (a, b, e) (
-      ap (λ l. laid_at l (kept * i) y) (sym (laid_at-start o x)) ∙ laid_at_next o 0 (kept * i) x y (omega (arith, words_length text p kept zeros i)) (omega arith)
+      ap (λ l. laid_at l (kept * i) y) (sym (laid_at-start o x))
+      ∙ laid_at_next o 0 (kept * i) x y (omega (arith, words_length text p kept zeros i)) (omega arith)
       ∙ laid_at-start o (x ++ y) ∙ ap (λ l. laid l o) (sym (words_more p i) ∙ ap (words_at text p kept zeros) (sym (add-one i))))
 
-  pub words_same : (p i n : ℕ) (out₀ : List ℕ) {out : List ℕ} → i ≤ n → n ≤ i → kept * n ≤ length out₀ → out ≡ laid (words_at text p kept zeros i) out₀ → length out ≡ length out₀
+  pub words_same : (p i n : ℕ) (out₀ : List ℕ) {out : List ℕ} → i ≤ n → n ≤ i → kept * n ≤ length out₀ → out ≡ laid (words_at text p kept zeros i) out₀
+      → length out ≡ length out₀
   words_same p i n out₀ h g k e = let z : i ≡ n = omega arith in ap length e ∙ words_kept p i out₀ (rw z k)
 
-  pub words_all : (p i n : ℕ) (out₀ : List ℕ) {out : List ℕ} → i ≤ n → n ≤ i → out ≡ laid (words_at text p kept zeros i) out₀ → out ≡ laid (words_at text p kept zeros n) out₀
+  pub words_all : (p i n : ℕ) (out₀ : List ℕ) {out : List ℕ} → i ≤ n → n ≤ i → out ≡ laid (words_at text p kept zeros i) out₀
+      → out ≡ laid (words_at text p kept zeros n) out₀
   words_all p i n out₀ h g e = let z : i ≡ n = omega arith in rw z at e

@@ -16,20 +16,32 @@ use Rattle.sheet_spec.specs.Sheet.{Columns, unfit, digit, space, byte, scan, sho
 
 -- ---- one byte more ----
 
-byte_by : (c : Columns) (b : ℕ) (t : Bool) → spec_is_digit b ≡ t → byte c b ≡ elim t [ true ↦ digit c (b - 48) | false ↦ elim (eqb b 32) [ true ↦ space c | false ↦ unfit ] ]
+byte_by : (c : Columns) (b : ℕ) (t : Bool) → spec_is_digit b ≡ t
+    → byte c b ≡ elim t [ true ↦ digit c (b - 48) | false ↦ elim (eqb b 32) [ true ↦ space c | false ↦ unfit ] ]
 unfolding byte
 byte_by c b t e = ap (λ x. elim x as (λ _. Columns) [ true ↦ digit c (b - 48) | false ↦ elim (eqb b 32) [ true ↦ space c | false ↦ unfit ] ]) e
 
-byte-space : (c : Columns) (b : ℕ) → b ≡ 32 → byte c b ≡ space c
+pub byte-space : (c : Columns) (b : ℕ) → b ≡ 32 → byte c b ≡ space c
 unfolding byte spec_is_digit
 byte-space c b e = rw e
 
 byte_other : (c : Columns) (b : ℕ) → spec_is_digit b ≡ false → (b ≡ 32 → ⊥) → unfit ≡ byte c b
 byte_other c b e h = sym (byte_by c b false e ∙ simp (ne_eqb b 32 h))
 
-byte-digit : (c : Columns) (b : ℕ) → 48 ≤ b → b ≤ 57 → byte c b ≡ digit c (b - 48)
+pub byte-digit : (c : Columns) (b : ℕ) → 48 ≤ b → b ≤ 57 → byte c b ≡ digit c (b - 48)
 unfolding spec_is_digit
 byte-digit c b h k = byte_by c b true (simp (le-leb 48 b h, le-leb b 57 k))
+
+pub byte-below : (c : Columns) (b : ℕ) → (b ≡ 32 → ⊥) → b < 48 → byte c b ≡ unfit
+unfolding spec_is_digit
+byte-below c b h k = sym (byte_other c b (simp (lt-leb 48 b k)) h)
+
+pub byte-above : (c : Columns) (b : ℕ) → 57 < b → byte c b ≡ unfit
+unfolding spec_is_digit
+byte-above c b k = sym (byte_other c b (simp (le-leb 48 b (omega arith), lt-leb b 57 k)) (λ e. omega (arith, e)))
+
+-- A byte by what it is: a space, a digit, or neither.
+pub ruleset bytes = (byte-space, byte-digit, byte-below, byte-above)
 
 digit-after : (f : Bool) (v d : ℕ) → (v ≡ 0 → ⊥) → digit (columns_by f true v) d ≡ columns_by f true (10 * v + d)
 unfolding digit columns_by

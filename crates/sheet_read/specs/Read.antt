@@ -1,6 +1,7 @@
 -- What reading a sheet answers, as the specification has it.
 use Rattle.std.specs.Prelude.{◌≡◌, Option, Some, None, Result, List, Bool, true, false, ◌&&◌, T, leb, ltb, length, ℕ, suc, zero, ◌+◌, ◌*◌, ◌≤◌}
-use Rattle.sheet_spec.specs.Sheet.{column_width, Columns as SpecColumns, blank, shown, unfit, beyond, number_at, term_columns, item_columns, run_columns, Counts, head_rule, body_rule, Sheet}
+use Rattle.sheet_spec.specs.Sheet.{column_width, Columns as SpecColumns, blank, shown, unfit, beyond, number_at}
+use Rattle.sheet_spec.specs.Sheet.{term_columns, item_columns, run_columns, Counts, head_rule, body_rule, Sheet}
 use Rattle.sheet_spec.specs.Job.{SheetAnswer, refused_sheet, counted, AfterSheet, unread, laid}
 use Rattle.sheet_form.specs.Form.{as_counts}
 use Rattle.sheet_read.specs.declared.Columns.{Columns}

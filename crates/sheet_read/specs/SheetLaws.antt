@@ -1,5 +1,6 @@
 -- Laws of the whole sheet: its counts, its names, the rules of its first line and of the lines after it test by test, and what reading leaves.
-use Rattle.std.specs.Prelude.{◌≡◌, Option as CodeOption, Some, None, MatchOption, List, [], Bool, ◌&&◌, T, eqb, length, take, drop, get_or, ℕ, ◌+◌, ◌-◌, ◌*◌, ◌<◌, ◌≤◌}
+use Rattle.std.specs.Prelude.{◌≡◌, Option as CodeOption, Some, None, MatchOption, List, [], Bool}
+use Rattle.std.specs.Prelude.{◌&&◌, T, eqb, length, take, drop, get_or, ℕ, ◌+◌, ◌-◌, ◌*◌, ◌<◌, ◌≤◌}
 use Rattle.sheet_form.specs.declared.Counts.{Counts as CodeCounts}
 use Rattle.std.proofs.Math.Path.{refl, ap, ap₂}
 use Rattle.std.proofs.Common.{sym, ◌∙◌, arith, leb→le}
@@ -8,8 +9,10 @@ use Rattle.std.proofs.Math.Bool.{true, false}
 use borrow.Author.Tests.{le-leb, lt-leb, eq-eqb, ne_eqb}
 use Rattle.std.proofs.Math.Dec.{leb}
 use Rattle.term_spec.proofs.BoolLaws.{both_of, true-T, T_true, Test, holds, fails, test}
-use Rattle.sheet_spec.specs.Sheet.{column_width, count_columns, beyond, number_at, words_at, term_columns, item_columns, run_columns, run_zeros, Counts, spec_line_ok, spec_lines_ok, Sheet}
-use Rattle.sheet_spec.specs.Sheet.{terms_start, spec_names_start, spec_pattern_start, spec_runs_start, sheet_end, head_rule, body_rule, counts_at, sheet_at, spec_read_sheet}
+use Rattle.sheet_spec.specs.Sheet.{column_width, count_columns, beyond, number_at, words_at, term_columns}
+use Rattle.sheet_spec.specs.Sheet.{item_columns, run_columns, run_zeros, Counts, spec_line_ok, spec_lines_ok, Sheet}
+use Rattle.sheet_spec.specs.Sheet.{terms_start, spec_names_start, spec_pattern_start, spec_runs_start}
+use Rattle.sheet_spec.specs.Sheet.{sheet_end, head_rule, body_rule, counts_at, sheet_at, spec_read_sheet}
 use Rattle.sheet_spec.specs.Job.{spec_names_part, laid, refused_sheet, counted, unread, read_into}
 use Rattle.sheet_spec.proofs.LineLaws.{words_length, line_facts}
 use Rattle.sheet_spec.proofs.SheetLaws.{facts_limits, head_facts, body_facts, read_none}
@@ -21,7 +24,8 @@ use Rattle.sheet_read.specs.Read.{Headless, InForm, Holds, held, filled, leaves_
 
 -- The four numbers of the first line.
 pub counts_same :
-    (text : List ℕ) {t n p r : ℕ} → t ≡ number_at text 0 → n ≡ number_at text column_width → p ≡ number_at text (2 * column_width) → r ≡ number_at text (3 * column_width)
+    (text : List ℕ) {t n p r : ℕ} → t ≡ number_at text 0 → n ≡ number_at text column_width → p ≡ number_at text (2 * column_width)
+    → r ≡ number_at text (3 * column_width)
     → ◌≡◌ {A = Counts} (record { terms = t; names = n; pattern = p; runs = r }) (counts_at text)
 unfolding counts_at
 counts_same text a b c d = cc
@@ -41,7 +45,8 @@ module _ (text : List ℕ) (c : Counts) {b : Bool} (e : b ≡ in_limits c) where
   pub names_short : b ≡ true → length text < spec_names_start c + c.names → [] ≡ spec_names_part text c
   names_short f h = sym (names_by text c false (simp (← e, f, lt-leb _ _ h)))
 
-  pub names_there : {x y : ℕ} → x ≡ spec_names_start c → y ≡ spec_names_start c + c.names → b ≡ true → y ≤ length text → take (y - x) (drop x text) ≡ spec_names_part text c
+  pub names_there : {x y : ℕ} → x ≡ spec_names_start c → y ≡ spec_names_start c + c.names → b ≡ true → y ≤ length text
+      → take (y - x) (drop x text) ≡ spec_names_part text c
   names_there {x} {y} i j f h =
       let z : y - x ≡ c.names = omega arith in
       ap₂ (λ m n. take m (drop n text)) z i ∙ sym (names_by text c true (simp (← e, f, le-leb (spec_names_start c + c.names) (length text) (omega arith))))
@@ -157,7 +162,8 @@ module _ (text t p r : List ℕ) where
   sheet_headless : Headless text → LeftAs 16 text t p r
   sheet_headless h = no_sheet (simp (h (counts_at text)))
 
-  pub sheet_missing : (o : CodeOption CodeCounts) → MatchOption o (Headless text) (λ c. as_counts c ≡ counts_at text) → ((c : CodeCounts) → o ≡ Some c → ⊥) → LeftAs 16 text t p r
+  pub sheet_missing : (o : CodeOption CodeCounts) → MatchOption o (Headless text) (λ c. as_counts c ≡ counts_at text) → ((c : CodeCounts) → o ≡ Some c → ⊥)
+      → LeftAs 16 text t p r
   sheet_missing None h n = sheet_headless h
   sheet_missing (Some c) h n = absurd (n c refl)
 
@@ -188,7 +194,8 @@ module _ (text t p r : List ℕ) where
     unfolding read_into
     left_by d f =
         let same : leb (term_columns * c.terms) (length t) && leb (item_columns * c.pattern) (length p) && leb (run_columns * c.runs) (length r)
-        ≡ leb (length (sheet_at text c).terms) (length t) && leb (length (sheet_at text c).pattern) (length p) && leb (length (sheet_at text c).runs) (length r) =
+        ≡ leb (length (sheet_at text c).terms) (length t) && leb (length (sheet_at text c).pattern) (length p)
+        && leb (length (sheet_at text c).runs) (length r) =
         rw (terms-length, pattern_length, runs-length) in
         ap (read_by c (sheet_at text c) t p r) (sym f ∙ same) ∙ ap₂ (λ s c. read_into s c t p r) (sym in_form) e
 
@@ -228,6 +235,7 @@ in_form_of text c e = let (h, b) = both_of (head_rule text c) (body_rule text c)
 
 pub holds_of : (c : Counts) (t p r : List ℕ) → true ≡ held c t p r → Holds c t p r
 holds_of c t p r e =
-    let (x, k) = both_of (leb (term_columns * c.terms) (length t) && leb (item_columns * c.pattern) (length p)) (leb (run_columns * c.runs) (length r)) (true-T _ (sym e)) in
+    let (x, k) = both_of (leb (term_columns * c.terms) (length t) && leb (item_columns * c.pattern) (length p)) (leb (run_columns * c.runs) (length r))
+    (true-T _ (sym e)) in
     let (i, j) = both_of (leb (term_columns * c.terms) (length t)) (leb (item_columns * c.pattern) (length p)) x in
     record { terms = leb→le _ _ i; pattern = leb→le _ _ j; runs = leb→le _ _ k }

@@ -22,7 +22,7 @@ pub enum Columns {
 // ---- numbers ----
 
 // One byte more: no space may follow a digit, and nothing a leading zero.
-#[tactic(auto, unfolding(sheet_spec::specs::Sheet::byte, sheet_spec::specs::Sheet::digit, sheet_spec::specs::Sheet::space, term_spec::specs::Text::spec_is_digit))]
+#[tactic(auto, using(crate::specs::NumberLaws::bytes), unfolding(sheet_spec::specs::Sheet::digit, sheet_spec::specs::Sheet::space))]
 fn next(c: Columns, b: u8) -> Columns
     requires { value_of c < 10000000000 }
     ensures { (as_columns result ≡ byte (as_columns c) b) × (value_of result < 10 * value_of c + 10) }

@@ -1,6 +1,8 @@
 -- Laws of one number in ten columns: its width, and reading is the inverse of writing.
-use Rattle.std.specs.Prelude.{◌≡◌, refl, List, [], ◌∷◌, ◌++◌, true, false, T, leb, eqb, length, take, drop, get_or, ℕ, suc, zero, ◌+◌, ◌-◌, ◌*◌, ◌/◌, ◌%◌, ◌^◌, ◌≤◌, ◌<◌}
-use Rattle.std.proofs.Common.{ap, ap₂, sym, ◌∙◌, leb→le, le→leb, eqb→eq, length-append, length-drop, take-suc, get_or-drop, take-take, take_at, get_or-take, arith}
+use Rattle.std.specs.Prelude.{◌≡◌, refl, List, [], ◌∷◌, ◌++◌, true, false, T, leb, eqb, length, take}
+use Rattle.std.specs.Prelude.{drop, get_or, ℕ, suc, zero, ◌+◌, ◌-◌, ◌*◌, ◌/◌, ◌%◌, ◌^◌, ◌≤◌, ◌<◌}
+use Rattle.std.proofs.Common.{ap, ap₂, sym, ◌∙◌, leb→le, le→leb, eqb→eq, length-append, length-drop}
+use Rattle.std.proofs.Common.{take-suc, get_or-drop, take-take, take_at, get_or-take, arith}
 use Rattle.std.proofs.Math.Dec.{eqb-suc-zero}
 use Rattle.std.proofs.lemmas.List.{get_or_at}
 use Rattle.term_spec.proofs.BoolLaws.{both_of, and_of, T_true, Test, holds, fails, test}

@@ -1,6 +1,7 @@
 -- Laws of slices of which a part is replaced: lengths, one element, a part after or before another one.
 use Rattle.std.specs.Prelude.{◌≡◌, List, [], ◌∷◌, ◌++◌, length, take, drop, set, ℕ, suc, ◌+◌, ◌≤◌, ◌<◌}
-use Rattle.std.proofs.Common.{ap, ap₂, sym, ◌∙◌, append_assoc, append-nil, length-append, length-drop, take-append-drop, length-take-le, take_at, drop_at, drop-drop, take-take, arith}
+use Rattle.std.proofs.Common.{ap, ap₂, sym, ◌∙◌, append_assoc, append-nil, length-append, length-drop}
+use Rattle.std.proofs.Common.{take-append-drop, length-take-le, take_at, drop_at, drop-drop, take-take, arith}
 use Rattle.std.proofs.Math.Seq.{drop-append-add}
 use Rattle.std.proofs.lemmas.List.{take-append-le, set_split}
 use Rattle.sheet_spec.specs.Job.{laid_at, laid}

@@ -1,6 +1,7 @@
 -- Laws of lines: their lengths, and reading is the inverse of writing.
 use Rattle.std.specs.Prelude.{◌≡◌, refl, List, [], ◌∷◌, ◌++◌, ◌&&◌, T, ltb, eqb, length, take, drop, get_or, replicate, ℕ, suc, zero, ◌+◌, ◌-◌, ◌*◌, ◌≤◌, ◌<◌}
-use Rattle.std.proofs.Common.{ap, ap₂, sym, ◌∙◌, append_assoc, lt→ltb, ltb→lt, eqb→eq, length-append, length-drop, take-suc, get_or-drop, take-take, take_at, drop_at, take-add, drop-drop, get_or-take, length-take-le, arith}
+use Rattle.std.proofs.Common.{ap, ap₂, sym, ◌∙◌, append_assoc, lt→ltb, ltb→lt, eqb→eq, length-append, length-drop, take-suc}
+use Rattle.std.proofs.Common.{get_or-drop, take-take, take_at, drop_at, take-add, drop-drop, get_or-take, length-take-le, arith}
 use Rattle.std.proofs.lemmas.List.{length-replicate}
 use Rattle.term_spec.proofs.BoolLaws.{both_of, and_of, eq→eqb}
 use Rattle.term_spec.proofs.ListLaws.{drop-take}
@@ -231,7 +232,8 @@ read_line text p kept fill h o =
 
 -- Lines that were written are in form, and their words read back.
 pub lines_read : (text : List ℕ) (p kept fill n : ℕ) (w : List ℕ) → n * kept ≤ length w → T (words_below w)
-    → take (line_width kept fill * n) (drop p text) ≡ lines kept fill n w → (words_at text p kept fill n ≡ take (n * kept) w) × T (spec_lines_ok text p kept fill n)
+    → take (line_width kept fill * n) (drop p text) ≡ lines kept fill n w
+    → (words_at text p kept fill n ≡ take (n * kept) w) × T (spec_lines_ok text p kept fill n)
 unfolding lines words_at spec_lines_ok
 lines_read text p kept fill zero w h b e = let z : zero * kept ≡ zero = omega arith in (rw z refl, tt)
 lines_read text p kept fill (suc n) w h b e =
@@ -245,8 +247,10 @@ lines_read text p kept fill (suc n) w h b e =
     (parts-left text one rest p W (W * n) k s) in
     let (q, y) = lines_read text (p + W) kept fill n (drop kept w) (omega (arith, length-drop kept w)) (below-drop kept w b)
     (parts-right text one rest p W (W * n) k s) in
-    let v : suc n * kept ≡ kept + n * kept = omega arith in
-    (ap₂ ◌++◌ m q ∙ sym (take-add kept (n * kept) w) ∙ ap (λ i. take i w) (sym v), and_of (spec_line_ok text p kept fill) (spec_lines_ok text (p + W) kept fill n) x y)
+    let v : suc n * kept ≡ kept + n * kept = omega arith in (
+      ap₂ ◌++◌ m q ∙ sym (take-add kept (n * kept) w) ∙ ap (λ i. take i w) (sym v),
+      and_of (spec_line_ok text p kept fill) (spec_lines_ok text (p + W) kept fill n) x y,
+    )
 
 -- Lines in form are the lines of their words.
 pub read_lines : (text : List ℕ) (p kept fill n : ℕ) → p + line_width kept fill * n ≤ length text → T (spec_lines_ok text p kept fill n)

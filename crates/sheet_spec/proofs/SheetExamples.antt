@@ -4,7 +4,8 @@ use Rattle.std.proofs.Math.Option.{some, none}
 use Rattle.term_spec.specs.Text.{spec_is_digit}
 use Rattle.term_spec.specs.Words.{count, whole}
 use Rattle.sheet_spec.specs.Sheet.{leading, column, columns, line, lines, Sheet, limits, sheet_text, sheet_rule, digit, space, byte, scan, shown_number}
-use Rattle.sheet_spec.specs.Sheet.{number_at, numbers_ok, zeros_ok, spec_line_ok, spec_lines_ok, numbers_at, words_at, counts_at, head_rule, body_rule, sheet_at}
+use Rattle.sheet_spec.specs.Sheet.{number_at, numbers_ok, zeros_ok, spec_line_ok, spec_lines_ok}
+use Rattle.sheet_spec.specs.Sheet.{numbers_at, words_at, counts_at, head_rule, body_rule, sheet_at}
 use Rattle.sheet_spec.specs.Sheet.{spec_read_sheet, sheet_end}
 
 -- ---- 01's example, "the two term lines" of which "end in a fifth 0" (02: 2.7) ----
@@ -58,8 +59,8 @@ example_text_lem = refl
 
 -- And is read back.
 pub example_read : spec_read_sheet example_text ≡ some example
-unfolding spec_is_digit limits digit space byte scan shown_number number_at numbers_ok zeros_ok spec_line_ok spec_lines_ok numbers_at words_at counts_at head_rule body_rule sheet_at
-    spec_read_sheet
+unfolding spec_is_digit limits digit space byte scan shown_number number_at numbers_ok zeros_ok spec_line_ok spec_lines_ok numbers_at words_at counts_at
+    head_rule body_rule sheet_at spec_read_sheet
 example_read = refl
 
 -- Whole records and counts within the limits; half a run.
@@ -100,28 +101,30 @@ term_sheet v = record { terms = v ∷ 0 ∷ 0 ∷ 0 ∷ 0 ∷ []; names = []; pa
 -- Each text below, but the last, differs from one of these in one place.
 pub in_form : map spec_read_sheet (one_term (two 52 53) two_ends ∷ one_term largest two_ends ∷ one_run (one 48) ∷ [])
     ≡ some (term_sheet 45) ∷ some (term_sheet 4294967295) ∷ some (record { terms = []; names = []; pattern = []; runs = 0 ∷ 0 ∷ [] }) ∷ []
-unfolding spec_is_digit limits digit space byte scan shown_number number_at numbers_ok zeros_ok spec_line_ok spec_lines_ok numbers_at words_at counts_at head_rule body_rule sheet_at
-    spec_read_sheet
+unfolding spec_is_digit limits digit space byte scan shown_number number_at numbers_ok zeros_ok spec_line_ok spec_lines_ok numbers_at words_at counts_at
+    head_rule body_rule sheet_at spec_read_sheet
 in_form = refl
 
 -- No text; a byte after the sheet; a byte too few.
 pub wrong_length : map spec_read_sheet ([] ∷ one_term (two 52 53) (two_ends ++ newline) ∷ one_term (two 52 53) newline ∷ []) ≡ none ∷ none ∷ none ∷ []
-unfolding spec_is_digit limits digit space byte scan shown_number number_at numbers_ok zeros_ok spec_line_ok spec_lines_ok numbers_at words_at counts_at head_rule body_rule sheet_at
-    spec_read_sheet
+unfolding spec_is_digit limits digit space byte scan shown_number number_at numbers_ok zeros_ok spec_line_ok spec_lines_ok numbers_at words_at counts_at
+    head_rule body_rule sheet_at spec_read_sheet
 wrong_length = refl
 
 -- Leading zeros; a number too large; a space after the digit; no digit; another byte.
-pub wrong_number : map spec_read_sheet (one_term (two 48 53) two_ends ∷ one_term (two 48 48) two_ends ∷ one_term too_large two_ends ∷ one_term shifted two_ends ∷ one_term
-    (one 32) two_ends ∷ one_term (one 97) two_ends ∷ [])
+pub wrong_number : map spec_read_sheet
+    (one_term (two 48 53) two_ends ∷ one_term (two 48 48) two_ends ∷ one_term too_large two_ends ∷ one_term shifted two_ends
+    ∷ one_term (one 32) two_ends ∷ one_term (one 97) two_ends ∷ [])
     ≡ none ∷ none ∷ none ∷ none ∷ none ∷ none ∷ []
-unfolding spec_is_digit limits digit space byte scan shown_number number_at numbers_ok zeros_ok spec_line_ok spec_lines_ok numbers_at words_at counts_at head_rule body_rule sheet_at
-    spec_read_sheet
+unfolding spec_is_digit limits digit space byte scan shown_number number_at numbers_ok zeros_ok spec_line_ok spec_lines_ok numbers_at words_at counts_at
+    head_rule body_rule sheet_at spec_read_sheet
 wrong_number = refl
 
 -- Another byte for the newline of a line; for that after the names; a run line whose third number is 1.
-pub wrong_line : map spec_read_sheet (one_term (two 52 53) (32 ∷ 10 ∷ []) ∷ one_term (two 52 53) (10 ∷ 32 ∷ []) ∷ one_run (one 49) ∷ []) ≡ none ∷ none ∷ none ∷ []
-unfolding spec_is_digit limits digit space byte scan shown_number number_at numbers_ok zeros_ok spec_line_ok spec_lines_ok numbers_at words_at counts_at head_rule body_rule sheet_at
-    spec_read_sheet
+pub wrong_line : map spec_read_sheet (one_term (two 52 53) (32 ∷ 10 ∷ []) ∷ one_term (two 52 53) (10 ∷ 32 ∷ []) ∷ one_run (one 49) ∷ [])
+    ≡ none ∷ none ∷ none ∷ []
+unfolding spec_is_digit limits digit space byte scan shown_number number_at numbers_ok zeros_ok spec_line_ok spec_lines_ok numbers_at words_at counts_at
+    head_rule body_rule sheet_at spec_read_sheet
 wrong_line = refl
 
 -- A term line of four numbers, and one with ten spaces after it, so that the text is as long as it should be; a pattern line of five numbers.
@@ -131,13 +134,14 @@ pub wrong_columns : map spec_read_sheet
     ∷ ((one 48 ++ one 48 ++ one 49 ++ one 48 ++ newline) ++ newline ++ (one 48 ++ two 52 53 ++ one 48 ++ one 48 ++ one 48 ++ newline))
     ∷ [])
     ≡ none ∷ none ∷ none ∷ []
-unfolding spec_is_digit limits digit space byte scan shown_number number_at numbers_ok zeros_ok spec_line_ok spec_lines_ok numbers_at words_at counts_at head_rule body_rule sheet_at
-    spec_read_sheet
+unfolding spec_is_digit limits digit space byte scan shown_number number_at numbers_ok zeros_ok spec_line_ok spec_lines_ok numbers_at words_at counts_at
+    head_rule body_rule sheet_at spec_read_sheet
 wrong_columns = refl
 
 -- 513 terms: the first line is enough to refuse them.
 pub too_many : spec_read_sheet (line (513 ∷ 0 ∷ 0 ∷ 0 ∷ []) ++ lines 5 0 513 (replicate 2565 0) ++ newline) ≡ none
-unfolding line columns column leading lines spec_is_digit limits digit space byte scan shown_number number_at numbers_ok zeros_ok spec_line_ok counts_at head_rule spec_read_sheet
+unfolding line columns column leading lines spec_is_digit limits digit space byte scan shown_number number_at numbers_ok zeros_ok spec_line_ok counts_at
+    head_rule spec_read_sheet
 too_many = refl
 
 -- The largest counts, and each of them with 1 more.

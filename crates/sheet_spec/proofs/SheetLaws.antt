@@ -10,8 +10,10 @@ use Rattle.match_spec.specs.Pattern.{item_layout, pattern_limit}
 use Rattle.sheet_spec.proofs.LineLaws.{line-length, lines-length, words_length, parts_join, parts-left, parts-right, part-byte, byte-part, line_read}
 use Rattle.sheet_spec.proofs.LineLaws.{read_line, lines_read, read_lines, words_below_lem}
 use Rattle.sheet_spec.specs.Sheet.{line, lines, Sheet, limits, sheet_text, sheet_rule, beyond, words_below, line_width, number_at, spec_line_ok, spec_lines_ok}
-use Rattle.sheet_spec.specs.Sheet.{numbers_at, words_at, Counts, counts_at, terms_start, spec_names_start, spec_pattern_start, spec_runs_start, sheet_end, head_rule}
-use Rattle.sheet_spec.specs.Sheet.{body_rule, sheet_at, spec_read_sheet, sheet_terms, sheet_names, count_columns, term_columns, item_columns, run_columns, run_zeros}
+use Rattle.sheet_spec.specs.Sheet.{numbers_at, words_at, Counts, counts_at, terms_start, spec_names_start}
+use Rattle.sheet_spec.specs.Sheet.{spec_pattern_start, spec_runs_start, sheet_end, head_rule}
+use Rattle.sheet_spec.specs.Sheet.{body_rule, sheet_at, spec_read_sheet, sheet_terms, sheet_names}
+use Rattle.sheet_spec.specs.Sheet.{count_columns, term_columns, item_columns, run_columns, run_zeros}
 
 -- ---- rules as facts ----
 
@@ -219,14 +221,16 @@ read_by_lem text = refl
 
 by_rules : (text : List ℕ) (c : Counts) → T (head_rule text c) → T (body_rule text c) → read_by text c ≡ some (sheet_at text c)
 unfolding read_by
-by_rules text c h b = let e : (head_rule text c && body_rule text c) ≡ true = T_true _ (and_of (head_rule text c) (body_rule text c) h b) in rw (e, read_by) refl
+by_rules text c h b =
+    let e : (head_rule text c && body_rule text c) ≡ true = T_true _ (and_of (head_rule text c) (body_rule text c) h b) in rw (e, read_by) refl
 
 by_none : (text : List ℕ) (c : Counts) → (head_rule text c && body_rule text c) ≡ false → read_by text c ≡ none
 unfolding read_by
 by_none text c e = rw (e, read_by) refl
 
 -- Where both tests hold, the sheet is read by the counts of the first line.
-pub read_some : (text : List ℕ) → T (head_rule text (counts_at text)) → T (body_rule text (counts_at text)) → spec_read_sheet text ≡ some (sheet_at text (counts_at text))
+pub read_some : (text : List ℕ) → T (head_rule text (counts_at text)) → T (body_rule text (counts_at text))
+    → spec_read_sheet text ≡ some (sheet_at text (counts_at text))
 read_some text h b = read_by_lem text ∙ by_rules text (counts_at text) h b
 
 -- Where one of them fails, there is no sheet.
@@ -255,7 +259,8 @@ unfolding head_rule
 facts_head text c f =
     let lim = limits c.terms c.names c.pattern c.runs in
     and_of (leb terms_start (length text) && spec_line_ok text 0 count_columns 0 && lim) (eqb (length text) (sheet_end c))
-    (and_of (leb terms_start (length text) && spec_line_ok text 0 count_columns 0) lim (and_of (leb terms_start (length text)) (spec_line_ok text 0 count_columns 0)
+    (and_of (leb terms_start (length text) && spec_line_ok text 0 count_columns 0) lim
+    (and_of (leb terms_start (length text)) (spec_line_ok text 0 count_columns 0)
     (le→leb terms_start (length text) (omega (arith, f.size))) f.line) (facts_limits _ _ _ _ f.limited))
     (eq→eqb _ _ f.size)
 

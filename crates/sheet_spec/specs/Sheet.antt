@@ -1,5 +1,6 @@
 -- The sheet's text form (01, "The sheet"): what a line and a sheet look like, and reading them. Texts are lists of bytes.
-use Rattle.std.specs.Prelude.{List, [], ◌∷◌, ◌++◌, Bool, true, false, ◌&&◌, leb, ltb, eqb, length, take, drop, get_or, replicate, ℕ, suc, zero, ◌+◌, ◌-◌, ◌*◌, ◌/◌, ◌%◌, min}
+use Rattle.std.specs.Prelude.{List, [], ◌∷◌, ◌++◌, Bool, true, false, ◌&&◌, leb, ltb, eqb, length, take}
+use Rattle.std.specs.Prelude.{drop, get_or, replicate, ℕ, suc, zero, ◌+◌, ◌-◌, ◌*◌, ◌/◌, ◌%◌, min}
 use Rattle.std.proofs.Math.Option.{Option, some, none}
 use Rattle.term_spec.specs.Text.{spec_is_digit}
 use Rattle.term_spec.specs.Words.{count, whole}
@@ -182,7 +183,8 @@ zeros_ok text p (suc k) = eqb (number_at text p) 0 && zeros_ok text (p + column_
 
 -- A line at p: its numbers, its zeros, its newline.
 unfoldable pub spec_line_ok : List ℕ → ℕ → ℕ → ℕ → Bool
-spec_line_ok text p kept fill = numbers_ok text p kept && zeros_ok text (p + column_width * kept) fill && eqb (get_or text (p + column_width * (kept + fill)) 0) 10
+spec_line_ok text p kept fill =
+    numbers_ok text p kept && zeros_ok text (p + column_width * kept) fill && eqb (get_or text (p + column_width * (kept + fill)) 0) 10
 
 -- n such lines.
 unfoldable pub spec_lines_ok : List ℕ → ℕ → ℕ → ℕ → ℕ → Bool

@@ -7,7 +7,8 @@ use Rattle.sheet_spec.proofs.ColumnLaws.{leading_length}
 use Rattle.sheet_spec.proofs.LaidLaws.{laid_at_none, laid_at-before}
 
 -- The last of k leading columns is written; what is left to write is the columns before it.
-pub leading_step : (old new : List ℕ) (p k v x : ℕ) → 0 < k → p + k ≤ length old → x ≡ elim (eqb v 0) [ true ↦ 32 | false ↦ 48 + v % 10 ] → new ≡ laid_at old (p + (k - 1)) (x ∷ [])
+pub leading_step : (old new : List ℕ) (p k v x : ℕ) → 0 < k → p + k ≤ length old → x ≡ elim (eqb v 0) [ true ↦ 32 | false ↦ 48 + v % 10 ]
+    → new ≡ laid_at old (p + (k - 1)) (x ∷ [])
     → laid_at new p (leading (k - 1) (v / 10)) ≡ laid_at old p (leading k v)
 unfolding leading
 leading_step old new p zero v x some h e f = absurd (omega arith)

@@ -1,6 +1,7 @@
 -- Laws of columns, lines and records written one after another.
 use Rattle.std.specs.Prelude.{◌≡◌, refl, List, [], ◌∷◌, ◌++◌, length, take, drop, replicate, get_or, set, ℕ, suc, zero, ◌+◌, ◌-◌, ◌*◌, ◌≤◌, ◌<◌}
-use Rattle.std.proofs.Common.{ap, ap₂, sym, ◌∙◌, append_assoc, append-nil, length-append, length-drop, take-suc, get_or-drop, drop-drop, length-take-le, take_all, arith, add-one}
+use Rattle.std.proofs.Common.{ap, ap₂, sym, ◌∙◌, append_assoc, append-nil, length-append, length-drop}
+use Rattle.std.proofs.Common.{take-suc, get_or-drop, drop-drop, length-take-le, take_all, arith, add-one}
 use Rattle.std.proofs.lemmas.List.{length-replicate}
 use Rattle.term_spec.proofs.ListLaws.{part_length}
 use Rattle.sheet_spec.specs.Sheet.{column_width, count_columns, column, columns, line, line_width, lines}
@@ -15,7 +16,8 @@ use borrow.Rule.Slice.PartMut.{put_mid}
 -- ---- a line of four numbers ----
 
 -- Four columns and a newline.
-pub line-laid : (old o1 o2 o3 o4 o5 : List ℕ) (p a b c d : ℕ) → p + line_bytes ≤ length old → o1 ≡ laid_at old p (column a) → o2 ≡ laid_at o1 (p + column_width) (column b)
+pub line-laid : (old o1 o2 o3 o4 o5 : List ℕ) (p a b c d : ℕ) → p + line_bytes ≤ length old → o1 ≡ laid_at old p (column a)
+    → o2 ≡ laid_at o1 (p + column_width) (column b)
     → o3 ≡ laid_at o2 (p + 2 * column_width) (column c) → o4 ≡ laid_at o3 (p + 3 * column_width) (column d)
     → o5 ≡ laid_at o4 (p + count_columns * column_width) (10 ∷ []) → o5 ≡ laid_at old p (line (a ∷ b ∷ c ∷ d ∷ []))
 unfolding line columns
@@ -36,7 +38,8 @@ line-laid old o1 o2 o3 o4 o5 p a b c d h e1 e2 e3 e4 e5 =
 -- ---- columns one after another ----
 
 -- One number more.
-columns-turn : (old out new l : List ℕ) (p i v : ℕ) → length l ≡ i → p + column_width * i ≤ length old → out ≡ laid_at old p (columns l) → new ≡ laid_at out (p + column_width * i) (column v)
+columns-turn : (old out new l : List ℕ) (p i v : ℕ) → length l ≡ i → p + column_width * i ≤ length old → out ≡ laid_at old p (columns l)
+    → new ≡ laid_at out (p + column_width * i) (column v)
     → new ≡ laid_at old p (columns (l ++ v ∷ []))
 unfolding columns
 columns-turn old out new l p i v n h e f =
@@ -44,19 +47,23 @@ columns-turn old out new l p i v n h e f =
     ∙ ap (laid_at old p) (ap (columns l ++◌) (sym (append-nil (column v))) ∙ sym (columns-append l (v ∷ [])))
 
 -- One word more.
-pub words_turn : (old out new words : List ℕ) (p w i v : ℕ) → w + i < length words → p + column_width * i ≤ length old → out ≡ laid_at old p (columns (take i (drop w words)))
+pub words_turn : (old out new words : List ℕ) (p w i v : ℕ) → w + i < length words → p + column_width * i ≤ length old
+    → out ≡ laid_at old p (columns (take i (drop w words)))
     → v ≡ get_or words (w + i) 0 → new ≡ laid_at out (p + column_width * i) (column v) → new ≡ laid_at old p (columns (take (i + 1) (drop w words)))
 words_turn old out new words p w i v k h e g f =
     columns-turn old out new (take i (drop w words)) p i v (part_length words w i (omega arith)) h e f
     ∙ ap (λ x. laid_at old p (columns (take i (drop w words) ++ x ∷ []))) (g ∙ sym (get_or-drop w words i 0))
-    ∙ ap (λ x. laid_at old p (columns x)) (sym (take-suc (drop w words) i 0 (omega (arith, length-drop w words))) ∙ ap (λ n. take n (drop w words)) (sym (add-one i)))
+    ∙ ap (λ x. laid_at old p (columns x))
+    (sym (take-suc (drop w words) i 0 (omega (arith, length-drop w words))) ∙ ap (λ n. take n (drop w words)) (sym (add-one i)))
 
 -- All the words.
-pub words_whole : (old out words : List ℕ) (p w i kept : ℕ) → i ≡ kept → out ≡ laid_at old p (columns (take i (drop w words))) → out ≡ laid_at old p (columns (take kept (drop w words)))
+pub words_whole : (old out words : List ℕ) (p w i kept : ℕ) → i ≡ kept → out ≡ laid_at old p (columns (take i (drop w words)))
+    → out ≡ laid_at old p (columns (take kept (drop w words)))
 words_whole old out words p w i kept h e = e ∙ ap (λ n. laid_at old p (columns (take n (drop w words)))) h
 
 -- The same of a slice of words: one more.
-pub slice_turn : (old out new words : List ℕ) (p i v : ℕ) → i < length words → p + column_width * length words ≤ length old → out ≡ laid_at old p (columns (take i words))
+pub slice_turn : (old out new words : List ℕ) (p i v : ℕ) → i < length words → p + column_width * length words ≤ length old
+    → out ≡ laid_at old p (columns (take i words))
     → v ≡ get_or words i 0 → new ≡ laid_at out (p + column_width * i) (column v) → new ≡ laid_at old p (columns (take (i + 1) words))
 slice_turn old out new words p i v k h e g f =
     columns-turn old out new (take i words) p i v (length-take-le i words (omega arith)) (omega arith) e f
@@ -86,7 +93,8 @@ record_laid old o1 o2 o3 words p w kept fill enough k h e1 e2 at-end e3 =
     let n = columns-length l ∙ ap (column_width *◌) (part_length words w kept k) in
     let j = columns-length z ∙ ap (column_width *◌) (length-replicate {A = ℕ} fill 0) in
     let g = e2 ∙ ap (λ x. laid_at o1 (p + column_width * kept) (columns x)) (first-zeros fill most_columns enough) in
-    let f2 = laid_at_then old o1 o2 p (p + column_width * kept) (columns l) (columns z) (omega arith) (omega arith) e1 g ∙ ap (laid_at old p) (sym (columns-append l z)) in
+    let f2 = laid_at_then old o1 o2 p (p + column_width * kept) (columns l) (columns z) (omega arith) (omega arith) e1 g
+    ∙ ap (laid_at old p) (sym (columns-append l z)) in
     let r = ap length (columns-append l z) ∙ length-append (columns l) (columns z) in
     laid_at_then old o2 o3 p _ (columns (l ++ z)) (10 ∷ []) (omega arith) (omega arith) f2 e3
 
@@ -101,7 +109,8 @@ record_set old o1 o2 l y p kept fill q zeros n h e1 g at-end =
     let j = columns-length z ∙ ap (column_width *◌) (length-replicate {A = ℕ} fill 0) in
     let i = columns-length l ∙ ap (column_width *◌) n in
     let k = g ∙ ap (λ x. laid_at o1 (p + column_width * kept) (columns x)) zeros in
-    let f2 = laid_at_then old o1 o2 p (p + column_width * kept) (columns l) (columns z) (omega arith) (omega arith) e1 k ∙ ap (laid_at old p) (sym (columns-append l z)) in
+    let f2 = laid_at_then old o1 o2 p (p + column_width * kept) (columns l) (columns z) (omega arith) (omega arith) e1 k
+    ∙ ap (laid_at old p) (sym (columns-append l z)) in
     let r = ap length (columns-append l z) ∙ length-append (columns l) (columns z) in
     let m : length o2 ≡ length old = ap length f2 ∙ laid_at-length old p (columns (l ++ z)) (omega arith) in
     laid_at_then old o2 (set o2 (p + q) 10) p (p + q) (columns (l ++ z)) (10 ∷ []) (omega arith) (omega arith) f2 (laid_at-set o2 (p + q) 10 (omega arith))
@@ -122,7 +131,8 @@ pub lines_start : (old words : List ℕ) (p kept fill n : ℕ) → laid_at old p
 lines_start old words p kept fill n = let z : n - 0 ≡ n = omega arith in ap (λ m. laid_at old p (lines kept fill m words)) z
 
 -- The same by the place of the first.
-pub lines_unwritten : (old words : List ℕ) (p w kept fill n : ℕ) → laid_at old (p + w * 0) (lines kept fill (n - 0) (drop (kept * 0) words)) ≡ laid_at old p (lines kept fill n words)
+pub lines_unwritten : (old words : List ℕ) (p w kept fill n : ℕ)
+    → laid_at old (p + w * 0) (lines kept fill (n - 0) (drop (kept * 0) words)) ≡ laid_at old p (lines kept fill n words)
 lines_unwritten old words p w kept fill n =
     let z : n - 0 ≡ n = omega arith in
     let y : p + w * 0 ≡ p = omega arith in
@@ -155,7 +165,8 @@ record_size words kept i n lt h =
 -- The same of record i.
 pub lines_more : (old new words : List ℕ) (p kept fill i n m : ℕ) {width : ℕ} → width ≡ line_width kept fill → m ≡ kept → i < n → kept * n ≤ length words
     → p + line_width kept fill * n ≤ length old → new ≡ laid_at old (p + width * i) (line (take m (drop (kept * i) words) ++ replicate fill 0))
-    → laid_at new (p + width * (i + 1)) (lines kept fill (n - (i + 1)) (drop (kept * (i + 1)) words)) ≡ laid_at old (p + width * i) (lines kept fill (n - i) (drop (kept * i) words))
+    → laid_at new (p + width * (i + 1)) (lines kept fill (n - (i + 1)) (drop (kept * (i + 1)) words))
+    ≡ laid_at old (p + width * i) (lines kept fill (n - i) (drop (kept * i) words))
 lines_more old new words p kept fill i n m {width = width} wide all lt k h e =
     let x : kept * (i + 1) ≡ kept * i + kept = omega arith in
     let y : p + width * (i + 1) ≡ p + width * i + width = omega arith in
@@ -164,7 +175,8 @@ lines_more old new words p kept fill i n m {width = width} wide all lt k h e =
     rw (x, y) (lines-turn old new words (p + width * i) (kept * i) kept fill i n wide lt (part_at kept n i (length words) lt k) (omega arith) (rw all at e))
 
 -- No record is left.
-pub lines-whole : (old out words rest : List ℕ) (p at kept fill n left : ℕ) → left ≤ 0 → laid_at out at (lines kept fill left rest) ≡ laid_at old p (lines kept fill n words)
+pub lines-whole : (old out words rest : List ℕ) (p at kept fill n left : ℕ) → left ≤ 0
+    → laid_at out at (lines kept fill left rest) ≡ laid_at old p (lines kept fill n words)
     → out ≡ laid_at old p (lines kept fill n words)
 unfolding lines
 lines-whole old out words rest p at kept fill n zero h e = sym (laid_at_none out at) ∙ e

@@ -30,7 +30,8 @@ module _ (s : Sheet) (rule : T (sheet_rule s)) {c : Counts} (counts : c ≡ spec
   text_length = sheet-length s rule ∙ ap sheet_end (sym counts)
 
 -- They fit, where the text does.
-pub fitting : (s : Sheet) (out : List ℕ) (rule : T (sheet_rule s)) {c : Counts} (counts : c ≡ spec_counts_of s) → length (sheet_text s) ≤ length out → Fitting s c out
+pub fitting : (s : Sheet) (out : List ℕ) (rule : T (sheet_rule s)) {c : Counts} (counts : c ≡ spec_counts_of s) → length (sheet_text s) ≤ length out
+    → Fitting s c out
 unfolding spec_counts_of count
 fitting s out rule counts h =
     let l = text_length s rule counts in
@@ -50,7 +51,8 @@ pub record Laid (s : Sheet) (c : Counts) (out o1 o2 o3 o4 o5 o6 : List ℕ) : Ty
   pub runs : o6 ≡ laid_at o5 (spec_runs_start c) (lines run_columns run_zeros c.runs s.runs)
 
 -- They come to the sheet's text.
-parts_all : (s : Sheet) (out : List ℕ) {o1 o2 o3 o4 o5 o6 : List ℕ} → sheet_end (spec_counts_of s) ≤ length out → Laid s (spec_counts_of s) out o1 o2 o3 o4 o5 o6 → o6 ≡ laid (sheet_text s) out
+parts_all : (s : Sheet) (out : List ℕ) {o1 o2 o3 o4 o5 o6 : List ℕ} → sheet_end (spec_counts_of s) ≤ length out
+    → Laid s (spec_counts_of s) out o1 o2 o3 o4 o5 o6 → o6 ≡ laid (sheet_text s) out
 unfolding sheet_text spec_counts_of count
 parts_all s out {o1} {o2} {o3} {o4} {o5} {o6} h f =
     let c = spec_counts_of s in
@@ -72,7 +74,8 @@ parts_all s out {o1} {o2} {o3} {o4} {o5} {o6} h f =
     ∙ laid_at-start out (head ++ ts ++ ns ++ (10 ∷ []) ++ ps ++ rs)
     ∙ ap (λ x. laid (x ++ rs) out) (append_snoc (head ++ ts ++ ns) 10 ps)
 
-pub parts-laid : (s : Sheet) {c : Counts} (out : List ℕ) {o1 o2 o3 o4 o5 o6 : List ℕ} → c ≡ spec_counts_of s → sheet_end c ≤ length out → Laid s c out o1 o2 o3 o4 o5 o6 → o6 ≡ laid (sheet_text s) out
+pub parts-laid : (s : Sheet) {c : Counts} (out : List ℕ) {o1 o2 o3 o4 o5 o6 : List ℕ} → c ≡ spec_counts_of s → sheet_end c ≤ length out
+    → Laid s c out o1 o2 o3 o4 o5 o6 → o6 ≡ laid (sheet_text s) out
 parts-laid s out counts h f = parts_all s out (rw counts at h) (rw counts at f)
 
 -- ---- the answers ----
@@ -125,10 +128,18 @@ module _ (s : Sheet) where
       pub runs-uneven : (length s.runs % run_layout.width ≡ 0 → ⊥) → false ≡ sheet_rule s
       unfolding sheet_rule whole
       runs-uneven h =
-          simp (eq-eqb (length s.terms % term_layout.width) 0 t, eq-eqb (length s.pattern % item_layout.width) 0 p, ne_eqb (length s.runs % run_layout.width) 0 h)
+          simp (
+            eq-eqb (length s.terms % term_layout.width) 0 t,
+            eq-eqb (length s.pattern % item_layout.width) 0 p,
+            ne_eqb (length s.runs % run_layout.width) 0 h,
+          )
 
       pub whole-limits : {c : Counts} {b : Bool} → length s.runs % run_layout.width ≡ 0 → c ≡ spec_counts_of s → b ≡ in_limits c → b ≡ sheet_rule s
       unfolding sheet_rule whole spec_counts_of
       whole-limits r counts h =
           h ∙ ap in_limits counts
-          ∙ simp (eq-eqb (length s.terms % term_layout.width) 0 t, eq-eqb (length s.pattern % item_layout.width) 0 p, eq-eqb (length s.runs % run_layout.width) 0 r)
+          ∙ simp (
+            eq-eqb (length s.terms % term_layout.width) 0 t,
+            eq-eqb (length s.pattern % item_layout.width) 0 p,
+            eq-eqb (length s.runs % run_layout.width) 0 r,
+          )

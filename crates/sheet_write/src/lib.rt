@@ -65,13 +65,13 @@ fn write_words(out: &mut [u8], p: usize, words: &[u32])
 }
 
 // A record's line: its words, then zeros.
-fn write_record(out: &mut [u8], p: usize, record: &[u32], form: LineForm)
-    requires { (p + line_width form.kept form.zeros ≤ length out.old) × Short form × (length record.now ≡ form.kept) }
-    ensures { let numbers = record.now ++ replicate form.zeros 0 in
+fn write_record(out: &mut [u8], p: usize, words: &[u32], form: LineForm)
+    requires { (p + line_width form.kept form.zeros ≤ length out.old) × Short form × (length words.now ≡ form.kept) }
+    ensures { let numbers = words.now ++ replicate form.zeros 0 in
         out.new ≡ laid_at out.old p (line numbers) }
 {
     let none = [0u32; sheet_form::MOST_COLUMNS];
-    write_words(out, p, record);
+    write_words(out, p, words);
     write_words(out, p + sheet_form::COLUMN * form.kept, &none[..form.zeros]);
     out[p + form.end()] = sheet_form::NEWLINE;
 }

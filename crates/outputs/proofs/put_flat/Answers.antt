@@ -1,12 +1,16 @@
--- A refusal tells its number alone.
+-- Each case of the answer is one clause of its definition, told by the definitions of Outputs.antt.
 use Rattle.calls_spec.specs.Step.{answer_number}
-use Rattle.view_read.specs.Read.{flat_of}
+use Rattle.view_read.specs.Read.{found_of, flat_of}
 use Rattle.outputs.specs.Outputs.{values_of, or_old, flat_out}
 use Rattle.outputs.proofs.put_flat.Goals as goal
 
-pub returns-in-Ok : goal.returns-in-Ok
-unfolding flat_of
-returns-in-Ok c = rw c.in-Ok.is c.put_found.ensures
+pub returns-in-Ok-InStore : goal.returns-in-Ok-InStore
+unfolding flat_of found_of flat_out answer_number values_of or_old
+returns-in-Ok-InStore c = rw (c.in-Ok-InStore.is, rw c.in-Ok-InStore.is at c.in-Ok-InStore.field-0-is)
+
+pub returns-in-Ok-InWork : goal.returns-in-Ok-InWork
+unfolding flat_of found_of flat_out answer_number values_of or_old
+returns-in-Ok-InWork c = rw (c.in-Ok-InWork.is, rw c.in-Ok-InWork.is at c.in-Ok-InWork.field-0-is)
 
 pub returns-in-Err : goal.returns-in-Err
 unfolding flat_of flat_out answer_number values_of or_old

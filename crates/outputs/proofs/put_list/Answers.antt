@@ -1,13 +1,18 @@
--- A refusal tells its number alone.
+-- Each case of the answer is one clause of its definition, told by the definitions of Outputs.antt.
 use Rattle.calls_spec.specs.Step.{answer_number}
-use Rattle.listing.specs.Match.{matched_of}
+use Rattle.words.specs.Refusals.{spec_number}
+use Rattle.listing.specs.Match.{brought, matched_of}
 use Rattle.outputs.specs.Outputs.{values_of, or_old, list_out}
 use Rattle.outputs.proofs.put_list.Goals as goal
 
-pub returns-in-Ok : goal.returns-in-Ok
-unfolding matched_of
-returns-in-Ok c = rw c.in-Ok.is c.put_brought.ensures
+pub returns-in-Ok-Listed : goal.returns-in-Ok-Listed
+unfolding matched_of brought list_out answer_number values_of or_old
+returns-in-Ok-Listed c = rw (c.in-Ok-Listed.is, rw c.in-Ok-Listed.is at c.in-Ok-Listed.field-0-is)
+
+pub returns-in-Ok-More : goal.returns-in-Ok-More
+unfolding matched_of brought list_out answer_number values_of or_old spec_number
+returns-in-Ok-More c = rw (c.in-Ok-More.is, rw c.in-Ok-More.is at c.in-Ok-More.field-0-is, c.number.ensures)
 
 pub returns-in-Err : goal.returns-in-Err
 unfolding matched_of list_out answer_number values_of or_old
-returns-in-Err c = rw (c.in-Err.is, c.number.ensures)
+returns-in-Err c = rw (c.in-Err.is, c.number-in-Err.ensures)
