@@ -13,12 +13,13 @@ ghost use Rattle.nodes.specs.NodeStore.{nodes_in, AnyStore, NodeIn};
 ghost use Rattle.nodes.specs.Complete.{reserved, child_of, completed, last_made, Completes, Became};
 
 use words::Node;
+use words::kind::NodeKind;
 
 // ---- rules ----
 
 // The only Nil.
 const NIL_NODE: Node = Node {
-    kind: words::NIL,
+    kind: NodeKind::Nil as usize,
     a: 0,
     b: 0,
     c: 0,
@@ -42,7 +43,9 @@ fn cons_ok(nodes: &[u32], terms: usize, i: usize, n: Node) -> bool
         return false;
     }
     let tail = words::get::<Node>(nodes, n.c);
-    tail.kind <= words::CONS && n.height == 1 && n.reach == reach_of(n.b, tail.reach)
+    (tail.is(NodeKind::Nil) || tail.is(NodeKind::Cons))
+        && n.height == 1
+        && n.reach == reach_of(n.b, tail.reach)
 }
 
 // Node i is a Concat within its rules.
@@ -55,8 +58,8 @@ fn concat_ok(nodes: &[u32], i: usize, n: Node) -> bool
     }
     let left = words::get::<Node>(nodes, n.a);
     let right = words::get::<Node>(nodes, n.c);
-    left.kind != words::NIL
-        && right.kind != words::NIL
+    !left.is(NodeKind::Nil)
+        && !right.is(NodeKind::Nil)
         && 1 <= n.b
         && n.b <= left.reach
         && 1 <= n.height
@@ -71,11 +74,11 @@ fn node_ok(nodes: &[u32], terms: usize, i: usize) -> bool
         result ≡ node_rule terms (nodes_in words i) (record_at node_layout words i) }
 {
     let n = words::get::<Node>(nodes, i);
-    match n.kind {
-        words::NIL => i == 0 && n == NIL_NODE,
-        words::CONS => cons_ok(nodes, terms, i, n),
-        words::CONCAT => concat_ok(nodes, i, n),
-        _ => false,
+    match NodeKind::try_from(n.kind) {
+        Ok(NodeKind::Nil) => i == 0 && n == NIL_NODE,
+        Ok(NodeKind::Cons) => cons_ok(nodes, terms, i, n),
+        Ok(NodeKind::Concat) => concat_ok(nodes, i, n),
+        Err(_) => false,
     }
 }
 
@@ -106,7 +109,7 @@ pub fn make_cons(nodes: &mut [u32], used: usize, a: usize, b: usize, c: usize)
 {
     let tail = words::get::<Node>(nodes, c);
     let n = Node {
-        kind: words::CONS,
+        kind: NodeKind::Cons.number(),
         a,
         b,
         c,
@@ -126,7 +129,7 @@ pub fn make_concat(nodes: &mut [u32], used: usize, a: usize, b: usize, c: usize)
     let left = words::get::<Node>(nodes, a);
     let right = words::get::<Node>(nodes, c);
     let n = Node {
-        kind: words::CONCAT,
+        kind: NodeKind::Concat.number(),
         a,
         b,
         c,
@@ -147,7 +150,7 @@ pub fn unclamp(nodes: &[u32], node: usize, len: usize) -> usize
     let mut at = node;
     loop {
         let n = words::get::<Node>(nodes, at);
-        if n.kind != words::CONCAT || n.b < len {
+        if !n.is(NodeKind::Concat) || n.b < len {
             return at;
         }
         at = n.a;
@@ -162,7 +165,7 @@ pub fn reserve(nodes: &mut [u32], i: usize, a: usize, b: usize, c: usize)
     ensures { nodes.new ≡ write node_layout nodes.old i (reserved a b c ∷ []) }
 {
     let n = Node {
-        kind: words::CONCAT,
+        kind: NodeKind::Concat.number(),
         a,
         b,
         c,

@@ -19,4 +19,4 @@ pub returns : goal.returns
 returns c =
     let l = known _ _ _ c.requires.store.store c.args.a c.requires.fits.1 c.get-left.ensures in
     let r = known _ _ _ c.requires.store.store c.args.c c.requires.fits.3 c.get-right.ensures in
-    concat_made _ _ _ _ _ l r c.max.ensures c.reach_of.ensures c.put.ensures
+    concat_made _ _ _ _ _ l r c.max.ensures c.reach_of.ensures (rw c.number.ensures at c.put.ensures)
