@@ -9,6 +9,7 @@ ghost use Rattle.nodes.specs.NodeStore.{nodes_in, AnyStore, Reaches, ReachesIn};
 ghost use Rattle.drop_front.specs.DropFront.{StoppedIn, plan_in, Room};
 
 use words::Node;
+use words::kind::NodeKind;
 
 // Where dropping ends along the right sides.
 #[derive(Clone, Copy)]
@@ -40,7 +41,7 @@ fn stop_at(nodes: &[u32], node: usize, count: usize) -> Stop
     while 0 < left {
         let n = words::get::<Node>(nodes, at);
         if left < n.b {
-            if n.kind == words::CONS {
+            if n.is(NodeKind::Cons) {
                 return Stop::Cut {
                     start: n.a + left,
                     len: n.b - left,

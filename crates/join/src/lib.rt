@@ -9,6 +9,7 @@ ghost use Rattle.nodes.specs.NodeStore.{nodes_in, AnyStore};
 ghost use Rattle.join.specs.Turn.{PieceIn, TurnedIn, grown, Joins};
 
 use words::Node;
+use words::kind::NodeKind;
 
 // One step of a join, from the top of the left down.
 #[derive(Clone, Copy)]
@@ -44,7 +45,7 @@ pub fn next_turn(nodes: &[u32], h: usize, node: usize, len: usize) -> Turn
 {
     let left = nodes::unclamp(nodes, node, len);
     let n = words::get::<Node>(nodes, left);
-    if n.kind != words::CONCAT || n.height - 1 <= h {
+    if !n.is(NodeKind::Concat) || n.height - 1 <= h {
         return Turn::Base { node: left, len };
     }
     let inner_left = words::get::<Node>(nodes, n.a);
@@ -60,7 +61,7 @@ pub fn next_turn(nodes: &[u32], h: usize, node: usize, len: usize) -> Turn
     }
     let middle = nodes::unclamp(nodes, n.c, inner);
     let m = words::get::<Node>(nodes, middle);
-    if m.kind != words::CONCAT {
+    if !m.is(NodeKind::Concat) {
         return Turn::Base { node: left, len };
     }
     Turn::Double {

@@ -15,6 +15,7 @@ ghost use Rattle.places.specs.Places.{part, ShowsPart, PartRead, seen_unit, entr
 
 use pieces::{Ahead, Piece};
 use words::Node;
+use words::kind::NodeKind;
 
 // The most terms of a part. Each field on the stack has at least one of them, so there are as many at most; a field has two words.
 pub const PART: usize = 4096;
@@ -105,7 +106,7 @@ fn read_with(
         if here.b <= at.skip {
             ahead.at.skip -= here.b;
             ahead.at.node = here.c;
-        } else if here.kind == words::CONS {
+        } else if here.is(NodeKind::Cons) {
             let k = at.left.min(here.b - at.skip);
             put_run(places, done, here.a + at.skip, k);
             done += k;

@@ -1,7 +1,9 @@
 use Rattle.std.proofs.Common.{arith}
 use Rattle.term_spec.proofs.WordsLaws.{decode-length}
 use Rattle.nodes.specs.RuleLaws.{below_at}
+use Rattle.words.proofs.KindLaws.{of_kind, not_of_kind}
 use Rattle.places.specs.ReadLaws.{reading_start, read_less}
+use Rattle.words.proofs.KindLaws.{of_kind, not_of_kind}
 use Rattle.places.specs.ReadLaws.{turn-fits, turn_low, turn_on, run_inside, turn-run, turn-copy, turn-right, turn-left, turn_down}
 use Rattle.places.proofs.read_with.Goals as goal
 
@@ -35,7 +37,7 @@ overflow_add-here c =
     let asked = c.requires.shows in
     let now = c.loop-done.invariant _ _ asked.store.store asked.reaches in
     let is = below_at _ asked.used _ c.get-here.ensures (rw decode-length at now.low) in
-    let inside = run_inside now c.loop-done-test.true is c.if-here-eq-CONS.true c.if-here-at.false c.min-k.ensures in
+    let inside = run_inside now c.loop-done-test.true is (of_kind c.is.ensures c.if-is.true) c.if-here-at.false c.min-k.ensures in
     omega (arith, inside, asked.store.few_terms)
 
 pub put_run-requires : goal.put_run-requires
@@ -43,7 +45,7 @@ put_run-requires c =
     let asked = c.requires.shows in
     let now = c.loop-done.invariant _ _ asked.store.store asked.reaches in
     let is = below_at _ asked.used _ c.get-here.ensures (rw decode-length at now.low) in
-    let inside = run_inside now c.loop-done-test.true is c.if-here-eq-CONS.true c.if-here-at.false c.min-k.ensures in
+    let inside = run_inside now c.loop-done-test.true is (of_kind c.is.ensures c.if-is.true) c.if-here-at.false c.min-k.ensures in
     let fits = turn-fits now c.loop-done-test.true (rw decode-length asked.store.store.few) c.requires.room.0 in
     (omega (arith, fits, c.min-k.ensures), omega (arith, inside, asked.store.few_terms, c.min-k.ensures, c.if-here-at.false))
 
@@ -60,18 +62,18 @@ pass-requires c =
     let now = c.loop-done.invariant _ _ asked.store.store asked.reaches in
     (omega arith, (turn-fits now c.loop-done-test.true (rw decode-length asked.store.store.few) c.requires.room.0).short)
 
-pub loop-done-preserved-then-here-eq-CONS : goal.loop-done-preserved-then-here-eq-CONS
-loop-done-preserved-then-here-eq-CONS c used terms store reaches =
+pub loop-done-preserved-then-is : goal.loop-done-preserved-then-is
+loop-done-preserved-then-is c used terms store reaches =
     let now = c.loop-done.invariant used terms store reaches in
     let is = below_at _ used _ c.get-here.ensures (rw decode-length at now.low) in
-    turn-run now c.loop-done-test.true is c.if-here-eq-CONS.true c.if-here-at.false c.min-k.ensures c.pass.ensures c.put_run.ensures
+    turn-run now c.loop-done-test.true is (of_kind c.is.ensures c.if-is.true) c.if-here-at.false c.min-k.ensures c.pass.ensures c.put_run.ensures
 
-pub loop-done-smaller-then-here-eq-CONS : goal.loop-done-smaller-then-here-eq-CONS
-loop-done-smaller-then-here-eq-CONS c =
+pub loop-done-smaller-then-is : goal.loop-done-smaller-then-is
+loop-done-smaller-then-is c =
     let asked = c.requires.shows in
     let now = c.loop-done.invariant _ _ asked.store.store asked.reaches in
     let fits = turn-fits now c.loop-done-test.true (rw decode-length asked.store.store.few) c.requires.room.0 in
-    let after = loop-done-preserved-then-here-eq-CONS c _ _ asked.store.store asked.reaches in
+    let after = loop-done-preserved-then-is c _ _ asked.store.store asked.reaches in
     let low = rw decode-length at after.low in
     read_less _ _ _ _ _ (omega (arith, fits, c.min-k.ensures, c.if-here-at.false)) (omega (arith, fits, c.min-k.ensures)) (omega (arith, low, asked.store.store.few))
 
@@ -119,7 +121,7 @@ enter-requires c =
     let now = c.loop-done.invariant _ _ asked.store.store asked.reaches in
     let is = below_at _ asked.used _ c.get-here.ensures (rw decode-length at now.low) in
     let fits = turn-fits now c.loop-done-test.true (rw decode-length asked.store.store.few) c.requires.room.0 in
-    let right = turn-right now c.loop-done-test.true is c.if-here-eq-CONS.false c.if-here-at.false in
+    let right = turn-right now c.loop-done-test.true is (not_of_kind c.is.ensures c.if-is.false) c.if-here-at.false in
     (omega arith, ((omega (arith, c.if-here-at.false), omega (arith, fits.short), omega (arith, right, fits.low)), omega (arith, fits)))
 
 pub loop-done-smaller : goal.loop-done-smaller
@@ -127,7 +129,7 @@ loop-done-smaller c =
     let asked = c.requires.shows in
     let now = c.loop-done.invariant _ _ asked.store.store asked.reaches in
     let is = below_at _ asked.used _ c.get-here.ensures (rw decode-length at now.low) in
-    omega (arith, turn-left now c.loop-done-test.true is c.if-here-eq-CONS.false c.if-here-at.false c.enter.ensures)
+    omega (arith, turn-left now c.loop-done-test.true is (not_of_kind c.is.ensures c.if-is.false) c.if-here-at.false c.enter.ensures)
 
 pub loop-done-preserved : goal.loop-done-preserved
 loop-done-preserved c used terms store reaches =
@@ -136,4 +138,4 @@ loop-done-preserved c used terms store reaches =
     let fits = turn-fits here c.loop-done-test.true (rw decode-length asked.store.store.few) c.requires.room.0 in
     let now = c.loop-done.invariant used terms store reaches in
     let is = below_at _ used _ c.get-here.ensures (rw decode-length at now.low) in
-    turn_down now c.loop-done-test.true is c.if-here-eq-CONS.false c.if-here-at.false (omega (arith, fits)) c.note.ensures c.enter.ensures
+    turn_down now c.loop-done-test.true is (not_of_kind c.is.ensures c.if-is.false) c.if-here-at.false (omega (arith, fits)) c.note.ensures c.enter.ensures
