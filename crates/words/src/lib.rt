@@ -3,6 +3,7 @@
 
 pub mod kind;
 pub mod refusal;
+pub mod runs;
 
 ghost use Rattle.std.specs.Prelude.{◌≡◌, refl, [], ◌∷◌, ℕ, ◌+◌, ◌*◌, ◌<◌, ◌≤◌, ◌^◌, eqb, length, get_or, set};
 ghost use Rattle.term_spec.specs.Words.{Layout, Lies, record_at, write};
