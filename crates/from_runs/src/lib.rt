@@ -4,7 +4,7 @@
 
 ghost use Rattle.std.specs.Prelude.{◌≡◌, ◌≤◌, ◌&&◌, leb, length, drop};
 ghost use Rattle.term_spec.specs.Words.{AtMost, count, whole, records, write};
-ghost use Rattle.term_spec.specs.Term.{run_layout, run_rule, runs_rule, run_list_limit};
+ghost use Rattle.term_spec.specs.Term.{run_layout, run_list_limit};
 ghost use Rattle.view_spec.specs.Node.{node_layout};
 ghost use Rattle.view_spec.specs.Build.{chain, chain_head, total};
 ghost use Rattle.words.specs.Records.{as_run};
@@ -27,22 +27,6 @@ pub fn runs_even(runs: &[u32]) -> bool
         result ≡ whole run_layout words && leb (count run_layout words) run_list_limit }
 {
     runs.len() % words::RUN_WIDTH == 0 && runs.len() / words::RUN_WIDTH <= words::RUN_LIST_LIMIT
-}
-
-// Whether a run ends within so many terms.
-#[tactic(auto, using(std::proofs::lemmas::Bool::Decides::nat_tests), unfolding(term_spec::specs::Term::run_rule))]
-fn run_inside(r: Run, terms: usize) -> bool
-    ensures { result ≡ run_rule terms (as_run r) }
-{
-    r.len <= terms && r.start <= terms - r.len
-}
-
-// Whether every run, even an empty one, ends within so many terms.
-pub fn runs_inside(runs: &[u32], terms: usize) -> bool
-    ensures { result ≡ runs_rule terms (records run_layout runs.now) }
-{
-    let n = runs.len() / words::RUN_WIDTH;
-    (0..n).all(|i| run_inside(words::get::<Run>(runs, i), terms))
 }
 
 // The terms of the runs together.

@@ -13,7 +13,7 @@ ghost use Rattle.from_runs.specs.FromRuns.{RunStore};
 ghost use Rattle.words.specs.Refusals.{told_number};
 ghost use Rattle.view.specs.Check.{as_field, store_of, checked, numbered, answer_of, leaves, grown_by};
 
-use words::Node;
+use words::{Node, Run};
 use words::refusal::Refusal;
 
 // A field: the first len terms of a node.
@@ -146,7 +146,7 @@ pub fn from_runs(
         Field::EMPTY,
         Field::EMPTY,
     )?;
-    if !from_runs::runs_inside(runs, terms_used) {
+    if !words::runs::runs_inside::<Run>(runs, terms_used) {
         return Err(Refusal::PastEnd);
     }
     let len = from_runs::runs_total(runs);
