@@ -3,14 +3,18 @@
 
 pub mod kind;
 
-ghost use Rattle.std.specs.Prelude.{◌≡◌, refl, eqb};
-ghost use Rattle.match_spec.specs.Pattern.{Item as SpecItem, Binding as SpecBinding, item_layout, binding_layout};
+ghost use Rattle.std.specs.Prelude.{◌≡◌, refl, eqb, map};
+ghost use Rattle.std.proofs.Common.{lit<};
+ghost use Rattle.term_spec.specs.Words.{records};
+ghost use Rattle.match_spec.specs.Pattern.{Item as SpecItem, Binding as SpecBinding, item_layout, binding_layout, bound_run};
 ghost use Rattle.words.specs.Records.{as_term};
+ghost use Rattle.words.specs.RunLaws.{runs_counted, runs_entry, no_run};
 ghost use Rattle.items.specs.Kinds.{item_kind};
 ghost use Rattle.items.specs.Records.{as_item, SmallItem, term_of_item, as_binding, SmallBinding};
 
 use kind::ItemKind;
-use words::{Record, Term};
+use words::runs::HasRun;
+use words::{Record, Run, Term};
 
 // One record of a pattern, its words widened.
 #[derive(Clone, Copy)]
@@ -133,6 +137,25 @@ impl Record for Binding {
     }
 
     ghost wide = { refl };
+}
+
+impl HasRun for Binding {
+    ghost runs = { λ w. map bound_run (records binding_layout w) };
+
+    ghost has = { λ b. bound_run (as_binding b) };
+
+    fn run(self) -> Run {
+        Run {
+            start: self.start,
+            len: self.len,
+        }
+    }
+
+    ghost some = { lit< tt };
+
+    ghost counted = { λ w. runs_counted binding_layout bound_run w };
+
+    ghost entry = { λ w i r lt e. runs_entry binding_layout bound_run w i lt e no_run };
 }
 
 // A literal of a pattern as a term.
