@@ -22,6 +22,7 @@ pub enum Step {
 }
 
 // 1 Uneven, of a list of runs: whole, and at most 64 of them.
+#[tactic(auto, unfolding(term_spec::specs::Words::whole, term_spec::specs::Words::count))]
 pub fn runs_even(runs: &[u32]) -> bool
     ensures { let words = runs.now in
         result ≡ whole run_layout words && leb (count run_layout words) run_list_limit }

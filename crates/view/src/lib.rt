@@ -13,8 +13,8 @@ ghost use Rattle.from_runs.specs.FromRuns.{RunStore};
 ghost use Rattle.words.specs.Refusals.{told_number};
 ghost use Rattle.view.specs.Check.{as_field, store_of, checked, numbered, answer_of, leaves, grown_by};
 
-use words::{Node, Run};
 use words::refusal::Refusal;
+use words::{Node, Run};
 
 // A field: the first len terms of a node.
 #[derive(Clone, Copy)]
@@ -45,17 +45,14 @@ impl Field {
 // ---- checks ----
 
 // 1 Uneven, of the nodes.
+#[tactic(auto, unfolding(term_spec::specs::Words::whole, term_spec::specs::Words::count, calls_spec::specs::Store::capacity))]
 fn nodes_even(nodes: &[u32], used: usize) -> bool
     ensures { let words = nodes.now in
         result ≡ whole node_layout words && leb used (capacity node_layout words) }
 {
-    if nodes.len() % words::NODE_WIDTH != 0 {
-        return false;
-    }
-    if words::LIMIT < used {
-        return false;
-    }
-    used <= nodes.len() / words::NODE_WIDTH
+    nodes.len() % words::NODE_WIDTH == 0
+        && used <= words::LIMIT
+        && used <= nodes.len() / words::NODE_WIDTH
 }
 
 // The first of 1 to 4 that applies to the stores and two fields. `even` says whether what else the call is lent is even. A call with fewer fields
@@ -89,14 +86,12 @@ pub fn check(
 }
 
 // Whether so many more nodes fit, by slice and limit.
+#[tactic(auto, unfolding(term_spec::specs::Words::count, calls_spec::specs::Store::capacity))]
 fn node_room(nodes: &[u32], used: usize, made: usize) -> bool
     requires { Lies node_layout nodes.now used × (used ≤ limit) }
     ensures { result ≡ leb (used + made) (capacity node_layout nodes.now) }
 {
-    if words::LIMIT - used < made {
-        return false;
-    }
-    made <= nodes.len() / words::NODE_WIDTH - used
+    made <= words::LIMIT - used && made <= nodes.len() / words::NODE_WIDTH - used
 }
 
 // ---- calls ----
