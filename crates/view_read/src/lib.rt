@@ -2,7 +2,7 @@
 // equality of fields, `Flat`); refusals are the port's.
 #![tactic(auto)]
 
-ghost use Rattle.std.specs.Prelude.{◌≡◌, ℕ, ◌+◌, ◌<◌, ◌≤◌};
+ghost use Rattle.std.specs.Prelude.{◌≡◌, ℕ, ◌+◌, ◌<◌, ◌≤◌, eqb, leb, true};
 ghost use Rattle.term_spec.specs.Words.{Lies, decode};
 ghost use Rattle.term_spec.specs.Term.{term_layout, limit};
 ghost use Rattle.view_spec.specs.Node.{node_layout};
@@ -14,10 +14,32 @@ ghost use Rattle.view.specs.Check.{as_field, store_of, leaves};
 ghost use Rattle.view_read.specs.Read.{verdict_of, spec_place_of, found_of, flat_of, leaves_work, flat_words, settled_of, settled_by};
 
 use view::Field;
+use words::kind::NodeKind;
 use words::refusal::Refusal;
 use words::{Node, Run};
 
 // ---- comparing ----
+
+// Whether two fields have lengths that fit, as the caller says, and equal terms as far as the second goes.
+fn compared(
+    names: &[u8],
+    terms: &[u32],
+    terms_used: usize,
+    nodes: &[u32],
+    nodes_used: usize,
+    f: Field,
+    g: Field,
+    lengths_fit: bool,
+) -> Result<bool, Refusal>
+    requires { lengths_fit ≡ true → g.len ≤ f.len }
+    ensures starts { let store = store_of names.now terms.now terms_used nodes.now nodes_used in
+        (lengths_fit ≡ leb g.len f.len → leaves (verdict_of result) store ≡ step store (call_starts_with (as_field f) (as_field g))) }
+    ensures equals { let store = store_of names.now terms.now terms_used nodes.now nodes_used in
+        (lengths_fit ≡ eqb f.len g.len → leaves (verdict_of result) store ≡ step store (call_equal (as_field f) (as_field g))) }
+{
+    view::check(names, terms, terms_used, nodes, nodes_used, true, f, g)?;
+    Ok(lengths_fit && rope::equal_fronts(names, terms, terms_used, nodes, f.node, g.node, g.len))
+}
 
 // Whether a field starts with another's terms.
 pub fn starts_with(
@@ -32,11 +54,8 @@ pub fn starts_with(
     ensures { let store = store_of names.now terms.now terms_used nodes.now nodes_used in
         leaves (verdict_of result) store ≡ step store (call_starts_with (as_field f) (as_field g)) }
 {
-    view::check(names, terms, terms_used, nodes, nodes_used, true, f, g)?;
-    if f.len < g.len {
-        return Ok(false);
-    }
-    Ok(rope::equal_fronts(names, terms, terms_used, nodes, f.node, g.node, g.len))
+    let fit = g.len <= f.len;
+    compared(names, terms, terms_used, nodes, nodes_used, f, g, fit)
 }
 
 // Whether two fields hold equal terms.
@@ -52,11 +71,8 @@ pub fn equal(
     ensures { let store = store_of names.now terms.now terms_used nodes.now nodes_used in
         leaves (verdict_of result) store ≡ step store (call_equal (as_field f) (as_field g)) }
 {
-    view::check(names, terms, terms_used, nodes, nodes_used, true, f, g)?;
-    if f.len != g.len {
-        return Ok(false);
-    }
-    Ok(rope::equal_fronts(names, terms, terms_used, nodes, f.node, g.node, g.len))
+    let fit = f.len == g.len;
+    compared(names, terms, terms_used, nodes, nodes_used, f, g, fit)
 }
 
 // ---- flatten and settling: the same choice ----
@@ -70,16 +86,14 @@ fn place_of(nodes: &[u32], f: Field) -> Option<Run>
         return Some(Run { start: 0, len: 0 });
     }
     let n = words::get::<Node>(nodes, f.node);
-    if n.kind != words::CONS {
-        return None;
+    if n.is(NodeKind::Cons) && n.c == 0 {
+        Some(Run {
+            start: n.a,
+            len: f.len,
+        })
+    } else {
+        None
     }
-    if n.c != 0 {
-        return None;
-    }
-    Some(Run {
-        start: n.a,
-        len: f.len,
-    })
 }
 
 // Where flatten found or put the terms.
