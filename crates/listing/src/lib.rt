@@ -14,6 +14,7 @@ ghost use Rattle.words.specs.Refusals.{told_number};
 ghost use Rattle.matcher.specs.Ready.{status_of, wanted_of};
 ghost use Rattle.listing.specs.Match.{matched_of, leaves_slots, request_of, even_words, refused_to8};
 
+use items::Binding;
 use matcher::{Goal, Status, Tally};
 use view::Field;
 use words::refusal::Refusal;
@@ -59,7 +60,7 @@ fn check_request(
         f,
         Field::EMPTY,
     )?;
-    if !pattern::bindings_inside(bindings, terms_used) {
+    if !words::runs::runs_inside::<Binding>(bindings, terms_used) {
         return Err(Refusal::PastEnd);
     }
     if !pattern::pattern_ok(names, pattern) {

@@ -4,11 +4,10 @@
 
 mod apart;
 
-ghost use Rattle.std.specs.Prelude.{◌≡◌, IfSome, IsSome, unwrap_or, List, [], map, ◌&&◌, ℕ, ◌+◌, ◌<◌, ◌≤◌, min, T, eqb, length, take};
+ghost use Rattle.std.specs.Prelude.{◌≡◌, IfSome, IsSome, unwrap_or, List, [], ◌&&◌, ℕ, ◌+◌, ◌<◌, ◌≤◌, min, T, eqb, length, take};
 ghost use Rattle.term_spec.specs.Words.{Lies, AtMost, record_at, decode, records, count};
-ghost use Rattle.term_spec.specs.Term.{runs_rule};
 ghost use Rattle.match_spec.specs.Pattern.{item_layout, call_kind, pattern_limit, name_limit, elements, item_rule_k, pattern_rule};
-ghost use Rattle.match_spec.specs.Pattern.{binding_layout, bound_run, binding_names, names_after, binding_rule, bindings_rule};
+ghost use Rattle.match_spec.specs.Pattern.{binding_layout, binding_names, names_after, binding_rule, bindings_rule};
 ghost use Rattle.items.specs.Records.{as_item, as_binding};
 ghost use Rattle.pattern.specs.Records.{bindings_in, numbers_of, variable, same_name, item_name, as_name, FoundAmong, first_names, table_at};
 ghost use Rattle.pattern.specs.Records.{BindingTexts, ItemTexts};
@@ -76,21 +75,7 @@ pub fn pattern_ok(names: &[u8], pattern: &[u32]) -> bool
     opened.is_empty()
 }
 
-// ---- the rules of starting bindings (5 PastEnd and 8 BadBinding) ----
-
-// Whether every binding's run, even an empty one, ends within so many terms.
-pub fn bindings_inside(bindings: &[u32], terms: usize) -> bool
-    ensures { result ≡ runs_rule terms (map bound_run (records binding_layout bindings.now)) }
-{
-    let n = bindings.len() / items::BINDING_WIDTH;
-    for i in 0..n {
-        let b = words::get::<Binding>(bindings, i);
-        if terms < b.len || terms - b.len < b.start {
-            return false;
-        }
-    }
-    true
-}
+// ---- the rules of starting bindings (8 BadBinding) ----
 
 // The kinds of variables.
 pub fn is_variable(kind: usize) -> bool

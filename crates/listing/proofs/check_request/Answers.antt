@@ -14,10 +14,10 @@ returns-in_err-check c =
     let p = err_from_is_err_and c.from_residual.result c.from_residual.ensures.1 in
     rw (p.1, p.2) (refusal_first _ _ _ _ c.request_even.ensures c.in_err-check.ensures (number_some _))
 
-pub returns-then-not-bindings_inside : goal.returns-then-not-bindings_inside
+pub returns-then-not-runs_inside : goal.returns-then-not-runs_inside
 unfolding ask numbered told_number spec_number
-returns-then-not-bindings_inside c =
-    refusal_later _ _ _ _ c.request_even.ensures c.in_ok-check.ensures refl (sym c.if-not-bindings_inside.true ∙ c.bindings_inside.ensures) refl refl
+returns-then-not-runs_inside c =
+    refusal_later _ _ _ _ c.request_even.ensures c.in_ok-check.ensures refl (sym c.if-not-runs_inside.true ∙ c.runs_inside.ensures) refl refl
 
 pub pattern_ok-requires : goal.pattern_ok-requires
 unfolding told_number
@@ -26,17 +26,17 @@ pattern_ok-requires c = refusal_short _ _ _ _ c.request_even.ensures c.in_ok-che
 pub returns-then-not-pattern_ok : goal.returns-then-not-pattern_ok
 unfolding ask numbered told_number spec_number
 returns-then-not-pattern_ok c =
-    refusal_later _ _ _ _ c.request_even.ensures c.in_ok-check.ensures refl (sym c.if-not-bindings_inside.false ∙ c.bindings_inside.ensures)
+    refusal_later _ _ _ _ c.request_even.ensures c.in_ok-check.ensures refl (sym c.if-not-runs_inside.false ∙ c.runs_inside.ensures)
     (sym c.if-not-pattern_ok.true ∙ c.pattern_ok.ensures) refl
 
 pub returns-then-not-bindings_ok : goal.returns-then-not-bindings_ok
 unfolding ask numbered told_number spec_number
 returns-then-not-bindings_ok c =
-    refusal_later _ _ _ _ c.request_even.ensures c.in_ok-check.ensures refl (sym c.if-not-bindings_inside.false ∙ c.bindings_inside.ensures)
+    refusal_later _ _ _ _ c.request_even.ensures c.in_ok-check.ensures refl (sym c.if-not-runs_inside.false ∙ c.runs_inside.ensures)
     (sym c.if-not-pattern_ok.false ∙ c.pattern_ok.ensures) (sym c.if-not-bindings_ok.true ∙ c.bindings_ok.ensures)
 
 pub returns : goal.returns
 unfolding ask numbered told_number
 returns c =
-    refusal_later _ _ _ _ c.request_even.ensures c.in_ok-check.ensures refl (sym c.if-not-bindings_inside.false ∙ c.bindings_inside.ensures)
+    refusal_later _ _ _ _ c.request_even.ensures c.in_ok-check.ensures refl (sym c.if-not-runs_inside.false ∙ c.runs_inside.ensures)
     (sym c.if-not-pattern_ok.false ∙ c.pattern_ok.ensures) (sym c.if-not-bindings_ok.false ∙ c.bindings_ok.ensures)
