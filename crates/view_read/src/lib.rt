@@ -13,6 +13,7 @@ ghost use Rattle.rope.specs.Pieces.{ShowsOf};
 ghost use Rattle.view.specs.Check.{as_field, store_of, leaves};
 ghost use Rattle.view_read.specs.Read.{verdict_of, spec_place_of, found_of, flat_of, leaves_work, flat_words, settled_of, settled_by};
 
+use value::store::Store;
 use view::Field;
 use words::kind::NodeKind;
 use words::refusal::Refusal;
@@ -38,7 +39,12 @@ fn compared(
         (lengths_fit ≡ eqb f.len g.len → leaves (verdict_of result) store ≡ step store (call_equal (as_field f) (as_field g))) }
 {
     view::check(names, terms, terms_used, nodes, nodes_used, true, f, g)?;
-    Ok(lengths_fit && rope::equal_fronts(names, terms, terms_used, nodes, f.node, g.node, g.len))
+    let store = Store {
+        names,
+        terms,
+        used: terms_used,
+    };
+    Ok(lengths_fit && rope::equal_fronts(&store, nodes, f.node, g.node, g.len))
 }
 
 // Whether a field starts with another's terms.

@@ -21,11 +21,15 @@ returns-in_err-check-clause-equals c fit =
     let p = err_from_is_err_and c.from_residual.result c.from_residual.ensures.1 in
     rw (p.1, p.2) (equal-refused _ _ _ c.in_err-check.ensures (number_some _))
 
+pub invariant_of-store : goal.invariant_of-store
+unfolding told_number
+invariant_of-store c = let (u, v) = usable_both _ _ _ c.in_ok-check.ensures refl in record { good = u.values; few = u.terms }
+
 pub equal_fronts-requires : goal.equal_fronts-requires
 unfolding told_number
 equal_fronts-requires c =
     let (u, v) = usable_both _ _ _ c.in_ok-check.ensures refl in
-    record { good_terms = (u.values, u.terms); good_nodes = (_, both_show u v (c.requires c.if-lengths_fit.true)) }
+    (_, both_show u v (c.requires c.if-lengths_fit.true))
 
 pub returns-then-lengths_fit-clause-starts : goal.returns-then-lengths_fit-clause-starts
 unfolding verdict_of told_number
