@@ -1,4 +1,4 @@
--- Laws of terms of a store for the code that reads them: the digest of one, two of them, and their contents as runs.
+-- Laws of terms of a store for the code that reads them: two of them, and their contents as runs.
 use Rattle.std.specs.Prelude.{◌≡◌, List, Option, Some, None, IfSome, ℕ, ◌+◌, ◌<◌, ◌≤◌}
 use Rattle.std.proofs.Common.{arith}
 use Rattle.term_spec.specs.Words.{record_at}
@@ -6,10 +6,9 @@ use Rattle.term_spec.specs.Term.{Term, Run, term_layout, bracket_kind, contents_
 use Rattle.value.specs.Equal.{TermStore, spec_equal_runs, equal_at}
 use Rattle.value.specs.EqualLaws.{texts_at, contents-below, at_differ, at_symbols, at_brackets}
 use Rattle.numbers.specs.DigestLaws.{below-prime}
-use Rattle.numbers.specs.KeyLaws.{key_bracket, key_symbol}
 
--- The digest of a term, by whether it is a bracket.
-pub ruleset term_keys = (key_bracket, key_symbol, below-prime)
+-- A digest is below the prime.
+pub ruleset digests_below = (below-prime)
 
 -- Two terms, by their kinds.
 pub ruleset two_terms = (texts_at, contents-below, at_differ, at_symbols, at_brackets)

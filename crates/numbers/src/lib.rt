@@ -108,7 +108,7 @@ fn symbol_digest(names: &[u8], base: usize, t: Term) -> usize
 }
 
 // The digest of a term, the terms below it having their numbers.
-#[tactic(auto, using(crate::specs::StoreLaws::term_keys, std::proofs::lemmas::Bool::Decides::nat_tests))]
+#[tactic(auto, using(crate::specs::KeyLaws::key_bracket, crate::specs::KeyLaws::key_symbol, crate::specs::StoreLaws::digests_below))]
 fn term_digest(names: &[u8], numbers: &[u16], marks: &[u32], base: usize, t: Term) -> usize
     requires readable { (base < prime) × Readable names.now t }
     requires below { let end = t.a + t.b in
