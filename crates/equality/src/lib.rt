@@ -3,7 +3,7 @@
 // (crate numbers), and from then on runs are compared by the numbers of their terms.
 #![tactic(auto)]
 
-ghost use Rattle.std.specs.Prelude.{◌≡◌, List, true, false, ℕ, ◌+◌, ◌<◌, ◌≤◌, length};
+ghost use Rattle.std.specs.Prelude.{◌≡◌, List, true, false, ℕ, ◌+◌, ◌<◌, length};
 ghost use Rattle.value.specs.Equal.{equal_at};
 ghost use Rattle.equality.specs.Compare.{compared_runs, answer_of};
 ghost use Rattle.equality.specs.Within.{TermsIn, RunsIn, same_runs, Tells};
@@ -21,8 +21,6 @@ use words::{Run, Term};
 
 // ---- within a budget ----
 
-// The two functions that compare within a budget are the hot loop. They take the two slices and no used count, since they need none.
-
 // What comparing within a budget tells: nothing once the budget is spent; otherwise whether the two are equal, and what is left of it. The three names
 // say more than a flag beside what is left, in an Option, would.
 #[derive(Clone, Copy)]
@@ -33,6 +31,7 @@ pub enum Outcome {
 }
 
 // Whether terms i and j are equal. Term and run equality call each other: bracket depth falls, so they are at most 512 calls deep.
+// This is the hot loop: it takes two slices and no store, since it needs no used count.
 #[cycle(equal_runs_within_equal_terms_within)]
 fn equal_terms_within(names: &[u8], terms: &[u32], i: usize, j: usize, budget: usize) -> Outcome
     requires { (used : ℕ) × TermsIn names.now terms.now i j used }

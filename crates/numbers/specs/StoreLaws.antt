@@ -15,8 +15,8 @@ pub ruleset two_terms = (texts_at, contents-below, at_differ, at_symbols, at_bra
 
 -- Term i is a bracket, whose contents lie below it.
 pub contents-inside :
-    {names w : List ℕ} {used : ℕ} → TermStore names w used → {i : ℕ} {t : Term} → i < used → t ≡ record_at term_layout w i → t.kind ≡ bracket_kind
-    → {r : Run} → r ≡ contents_run t → r.start + r.len ≤ i
+    {names w : List ℕ} {used : ℕ} → TermStore names w used → {i : ℕ} {t : Term} → i < used → t ≡ record_at term_layout w i
+    → t.kind ≡ bracket_kind → {r : Run} → r ≡ contents_run t → r.start + r.len ≤ i
 contents-inside good inside read bracket e = rw e (contents-below _ _ _ good _ _ inside read bracket)
 
 -- Two brackets are equal if their contents are.

@@ -221,7 +221,7 @@ pub fn equal_numbered(numbers: &[u16], first: Run, second: Run) -> bool
 }
 
 // What it took to tell terms c and k apart, the terms below them having their numbers; none if they are equal.
-#[tactic(auto, using(crate::specs::StoreLaws::two_terms, std::proofs::lemmas::Bool::Decides::nat_tests))]
+#[tactic(auto, using(crate::specs::StoreLaws::two_terms))]
 fn apart_above(store: &Store, numbers: &[u16], c: usize, k: usize) -> Option<usize>
     requires { (c < k) × (k < store.now.used) × Numbered store.now k numbers.now }
     ensures { (IfSome result (λ cost. cost ≤ limit)) × (is_none result ≡ terms_equal store.now c k) }
@@ -281,6 +281,7 @@ struct Number {
 }
 
 // The number of term k, the terms below it having theirs. A term that no other is equal to is entered.
+#[tactic(auto, using(crate::specs::StoreLaws::two_terms, crate::proofs::TablesLaws::key_low))]
 fn number_of(
     store: &Store,
     numbers: &[u16],

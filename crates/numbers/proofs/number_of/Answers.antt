@@ -1,31 +1,12 @@
 -- The term's bucket is its key's, whose chain has every equal term that is entered; what is found there gives the tables with the term.
 use Rattle.std.proofs.Common.{refl, arith}
-use Rattle.value.specs.EqualLaws.{texts_at, contents-below}
-use Rattle.numbers.specs.DigestLaws.{marked_below}
 use Rattle.numbers.proofs.TablesLaws.{key_low, key_here, searched_head, place_found, place_none, tables_found, tables_entered}
 use Rattle.numbers.proofs.number_of.Goals as goal
-
-pub bucket_of-b-requires-clause-readable : goal.bucket_of-b-requires-clause-readable
-bucket_of-b-requires-clause-readable c =
-    let inside = c.requires.tables.0 in
-    let read = c.get-t.ensures in
-    (c.requires.marked.0, (texts_at _ _ _ c.args.store.now.good _ _ _ _ inside inside read read).left)
-
-pub bucket_of-b-requires-clause-below : goal.bucket_of-b-requires-clause-below
-bucket_of-b-requires-clause-below c bracket =
-    let (inside, tables) = c.requires.tables in
-    let low = contents-below _ _ _ c.args.store.now.good _ _ inside c.get-t.ensures bracket in
-    (omega (arith, tables.room), omega (arith, tables.few), marked_below c.requires.marked.1 _ low)
 
 pub find_equal-found-requires : goal.find_equal-found-requires
 find_equal-found-requires c =
     let (inside, tables) = c.requires.tables in
     (_, key_low tables c.bucket_of-b.ensures c.get-t.ensures, searched_head tables c.bucket_of-b.ensures c.get-t.ensures inside refl)
-
-pub enter-requires-clause-room : goal.enter-requires-clause-room
-enter-requires-clause-room c =
-    let (inside, tables) = c.requires.tables in
-    (key_low tables c.bucket_of-b.ensures c.get-t.ensures, omega (arith, tables.few))
 
 pub returns-in-Some : goal.returns-in-Some
 returns-in-Some c =
