@@ -2,6 +2,7 @@ pub mod Compare
 pub mod CompareLaws
 pub mod Memory
 pub mod Stores
+pub mod StoreLaws
 pub mod MemoryLaws
 pub mod TwoLaws
 pub mod Within

@@ -1,6 +1,6 @@
 -- Laws of two terms that were read and of two runs, whatever number of used terms a store within its rules has them in.
 use Rattle.std.specs.Prelude.{◌≡◌, List, Bool, true, false, ◌&&◌, ℕ, suc, ◌+◌, ◌<◌}
-use Rattle.std.proofs.Common.{sym, ◌∙◌, add-zero, arith}
+use Rattle.std.proofs.Common.{refl, sym, ◌∙◌, add-zero, arith}
 use Rattle.term_spec.specs.Words.{record_at}
 use Rattle.term_spec.specs.Term.{Term, Run, term_layout, char_kind, bracket_kind, contents_run}
 use Rattle.value.specs.Equal.{Texts, spec_equal_symbols, equal_at}
@@ -57,6 +57,20 @@ module _ {names w : List ℕ} {i j : ℕ} {t u : Term} {used : ℕ} (two : Two n
 
     pub two_shallow : depth_at w i ≡ suc (deepest_in w t.a t.b)
     two_shallow = contents_shallow names w used two.inside.store i t two.inside.first two.left b
+
+    -- the same of their contents as runs that were read
+    module _ {r q : Run} (first : r ≡ contents_run t) (second : q ≡ contents_run u) where
+      pub two_alike : same_runs names w used r q ≡ equal_at names w used i j
+      two_alike = rw (first, second) two_brackets
+
+      pub two_inside : RunsIn names w r q used
+      two_inside = rw (first, second) two-contents
+
+      pub two_less : {d : ℕ} → d ≡ deepest_in w r.start r.len → d < depth_at w i
+      two_less e =
+          let less = two_shallow in
+          let same : deepest_in w r.start r.len ≡ deepest_in w t.a t.b = rw first refl in
+          omega arith
 
 -- ---- two runs, term by term ----
 

@@ -3,18 +3,19 @@
 // (crate numbers), and from then on runs are compared by the numbers of their terms.
 #![tactic(auto)]
 
-ghost use Rattle.std.specs.Prelude.{◌≡◌, List, true, false, ℕ, ◌+◌, ◌<◌, ◌≤◌, length};
-ghost use Rattle.value.specs.Equal.{TermStore, equal_at, spec_equal_runs};
+ghost use Rattle.std.specs.Prelude.{◌≡◌, List, true, false, ℕ, ◌+◌, ◌<◌, length};
+ghost use Rattle.value.specs.Equal.{equal_at};
 ghost use Rattle.equality.specs.Compare.{compared_runs, answer_of};
 ghost use Rattle.equality.specs.Within.{TermsIn, RunsIn, same_runs, Tells};
-ghost use Rattle.equality.specs.Memory.{Memory, Says};
+ghost use Rattle.equality.specs.Memory.{Says};
 ghost use Rattle.equality.specs.Stores.{Remembers};
 ghost use Rattle.value.specs.Store.{Within, runs_equal};
 ghost use Rattle.words.specs.Records.{as_run};
 ghost use Rattle.term_spec.specs.Words.{Lies};
-ghost use Rattle.term_spec.specs.Term.{term_layout, limit};
+ghost use Rattle.term_spec.specs.Term.{term_layout};
 
 use value::store::Store;
+use words::kind::TermKind;
 use words::refusal::Refusal;
 use words::{Run, Term};
 
@@ -30,6 +31,7 @@ pub enum Outcome {
 }
 
 // Whether terms i and j are equal. Term and run equality call each other: bracket depth falls, so they are at most 512 calls deep.
+// This is the hot loop: it takes two slices and no store, since it needs no used count.
 #[cycle(equal_runs_within_equal_terms_within)]
 fn equal_terms_within(names: &[u8], terms: &[u32], i: usize, j: usize, budget: usize) -> Outcome
     requires { (used : ℕ) × TermsIn names.now terms.now i j used }
@@ -43,22 +45,14 @@ fn equal_terms_within(names: &[u8], terms: &[u32], i: usize, j: usize, budget: u
         return Outcome::Different(budget);
     }
     // Chars are the most frequent terms. Compared here, they are read no further than their value.
-    if t.kind == words::CHAR {
+    if t.is(TermKind::Char) {
         if t.a != u.a {
             return Outcome::Different(budget);
         }
         return Outcome::Equal(budget);
     }
-    if t.kind == words::BRACKET {
-        let first = Run {
-            start: t.a,
-            len: t.b,
-        };
-        let second = Run {
-            start: u.a,
-            len: u.b,
-        };
-        return equal_runs_within(names, terms, first, second, budget);
+    if t.is(TermKind::Bracket) {
+        return equal_runs_within(names, terms, t.contents(), u.contents(), budget);
     }
     if value::equal_symbols(names, t, u) {
         return Outcome::Equal(budget);
@@ -113,12 +107,12 @@ pub fn equal_runs_within(
 // Whether two runs are equal, all terms being numbered for it. The numbers take 128 KB of stack, which callers that never come
 // here do not need.
 #[inline(never)]
-fn equal_by_numbers(names: &[u8], terms: &[u32], used: usize, first: Run, second: Run) -> bool
-    requires { RunsIn names.now terms.now (as_run first) (as_run second) used }
-    ensures { result ≡ same_runs names.now terms.now used (as_run first) (as_run second) }
+fn equal_by_numbers(store: &Store, first: Run, second: Run) -> bool
+    requires { Within store.now (as_run first) × Within store.now (as_run second) }
+    ensures { result ≡ runs_equal store.now (as_run first) (as_run second) }
 {
     let mut known = [0u16; words::LIMIT];
-    numbers::number_terms_of(names, terms, used, &mut known);
+    numbers::number_terms(store, &mut known);
     numbers::equal_numbered(&known, first, second)
 }
 
@@ -127,14 +121,15 @@ const EXTRA: usize = 4096;
 
 // Whether two runs are equal, with nothing known and nothing kept. Where no contents are shared, the budget is enough: all of them together are at
 // most the used terms.
-fn equal_alone(names: &[u8], terms: &[u32], used: usize, first: Run, second: Run) -> bool
-    requires { RunsIn names.now terms.now (as_run first) (as_run second) used }
-    ensures { result ≡ same_runs names.now terms.now used (as_run first) (as_run second) }
+#[tactic(auto, using(crate::specs::StoreLaws::runs_in), unfolding(crate::specs::Within::Tells))]
+fn equal_alone(store: &Store, first: Run, second: Run) -> bool
+    requires { Within store.now (as_run first) × Within store.now (as_run second) }
+    ensures { result ≡ runs_equal store.now (as_run first) (as_run second) }
 {
-    match equal_runs_within(names, terms, first, second, used + EXTRA) {
+    match equal_runs_within(store.names, store.terms, first, second, store.used + EXTRA) {
         Outcome::Different(_) => false,
         Outcome::Equal(_) => true,
-        Outcome::Spent => equal_by_numbers(names, terms, used, first, second),
+        Outcome::Spent => equal_by_numbers(store, first, second),
     }
 }
 
@@ -170,42 +165,26 @@ impl Kept {
 }
 
 // All terms are numbered, for this comparison and those after it.
-fn equal_from_now_on(
-    names: &[u8],
-    terms: &[u32],
-    used: usize,
-    first: Run,
-    second: Run,
-    known: &mut [u16],
-) -> bool
-    requires runs { RunsIn names.now terms.now (as_run first) (as_run second) used }
-    requires room { used < length known.old }
-    ensures { let text = names.now in
-        let store = terms.now in
-        (result ≡ same_runs text store used (as_run first) (as_run second)) × Memory text store used known.new }
+fn equal_from_now_on(store: &Store, first: Run, second: Run, known: &mut [u16]) -> bool
+    requires within { Within store.now (as_run first) × Within store.now (as_run second) }
+    requires room { store.now.used < length known.old }
+    ensures { (result ≡ runs_equal store.now (as_run first) (as_run second)) × Remembers store.now known.new }
 {
-    numbers::number_terms_of(names, terms, used, known);
-    known[used] = NUMBERED as u16;
+    numbers::number_terms(store, known);
+    known[store.used] = NUMBERED as u16;
     numbers::equal_numbered(known, first, second)
 }
 
 // Whether two runs are equal, by what is kept or else within what is left of the budget.
-fn equal_kept(
-    names: &[u8],
-    terms: &[u32],
-    used: usize,
-    first: Run,
-    second: Run,
-    known: &mut [u16],
-) -> bool
-    requires runs { RunsIn names.now terms.now (as_run first) (as_run second) used }
-    requires memory { Memory names.now terms.now used known.old }
-    ensures { let text = names.now in
-        let store = terms.now in
-        (result ≡ same_runs text store used (as_run first) (as_run second)) × Memory text store used known.new }
+#[tactic(auto, using(crate::specs::StoreLaws::runs_in, crate::specs::MemoryLaws::memory_counted), unfolding(crate::specs::Within::Tells))]
+fn equal_kept(store: &Store, first: Run, second: Run, known: &mut [u16]) -> bool
+    requires within { Within store.now (as_run first) × Within store.now (as_run second) }
+    requires memory { Remembers store.now known.old }
+    ensures { (result ≡ runs_equal store.now (as_run first) (as_run second)) × Remembers store.now known.new }
 {
+    let used = store.used;
     if known.len() <= used {
-        return equal_alone(names, terms, used, first, second);
+        return equal_alone(store, first, second);
     }
     let spent = match Kept::read(known[used]) {
         Kept::Numbered => {
@@ -213,7 +192,7 @@ fn equal_kept(
         }
         Kept::Spent(spent) => spent,
     };
-    match equal_runs_within(names, terms, first, second, BUDGET - spent) {
+    match equal_runs_within(store.names, store.terms, first, second, BUDGET - spent) {
         Outcome::Different(rest) => {
             known[used] = (BUDGET - rest) as u16;
             false
@@ -222,7 +201,7 @@ fn equal_kept(
             known[used] = (BUDGET - rest) as u16;
             true
         }
-        Outcome::Spent => equal_from_now_on(names, terms, used, first, second, known),
+        Outcome::Spent => equal_from_now_on(store, first, second, known),
     }
 }
 
@@ -235,64 +214,19 @@ fn apart_at_sight(terms: &[u32], i: usize, j: usize) -> bool
 {
     let t = words::get::<Term>(terms, i);
     let u = words::get::<Term>(terms, j);
-    if t.kind != u.kind {
-        return true;
-    }
-    if t.kind != words::CHAR {
-        return false;
-    }
-    t.a != u.a
+    t.kind != u.kind || (t.is(TermKind::Char) && t.a != u.a)
 }
 
-// Whether two runs are equal, term by term.
+// Whether two runs are equal, term by term. Most that differ do so at sight, which is cheaper to see than what is kept.
 pub fn equal_runs(store: &Store, first: Run, second: Run, known: &mut [u16]) -> bool
     requires within { Within store.now (as_run first) × Within store.now (as_run second) }
     requires memory { Remembers store.now known.old }
     ensures { (result ≡ runs_equal store.now (as_run first) (as_run second)) × Remembers store.now known.new }
 {
-    equal_runs_of(
-        store.names,
-        store.terms,
-        store.used,
-        first.start,
-        first.len,
-        second.start,
-        second.len,
-        known,
-    )
-}
-
-// Whether the n terms from s on and the m terms from p on are equal, term by term. Most that differ do so at sight, which is cheaper to see than what
-// is kept.
-pub fn equal_runs_of(
-    names: &[u8],
-    terms: &[u32],
-    used: usize,
-    s: usize,
-    n: usize,
-    p: usize,
-    m: usize,
-    known: &mut [u16],
-) -> bool
-    requires store { TermStore names.now terms.now used × (used ≤ limit) }
-    requires within { (s + n ≤ used) × (p + m ≤ used) }
-    requires memory { Memory names.now terms.now used known.old }
-    ensures { let text = names.now in
-        let store = terms.now in
-        (result ≡ spec_equal_runs text store used s n p m) × Memory text store used known.new }
-{
-    if n != m {
-        return false;
-    }
-    if n == 0 {
-        return true;
-    }
-    if apart_at_sight(terms, s, p) {
-        return false;
-    }
-    let first = Run { start: s, len: n };
-    let second = Run { start: p, len: m };
-    equal_kept(names, terms, used, first, second, known)
+    first.len == second.len
+        && (first.len == 0
+            || (!apart_at_sight(store.terms, first.start, second.start)
+                && equal_kept(store, first, second, known)))
 }
 
 // ---- any two runs ----
@@ -316,7 +250,8 @@ pub fn compare_runs(
     if used < m || used - m < p {
         return Err(Refusal::PastEnd);
     }
+    let store = Store { names, terms, used };
     let first = Run { start: s, len: n };
     let second = Run { start: p, len: m };
-    Ok(equal_alone(names, terms, used, first, second))
+    Ok(equal_alone(&store, first, second))
 }

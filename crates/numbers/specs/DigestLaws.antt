@@ -1,7 +1,8 @@
 -- Laws of digests: they are below the prime, a list's is had from those of its parts, and leading zeros change none. And laws of the marks.
 use Rattle.std.specs.Prelude.{◌≡◌, Bool, take, drop, get_or, set, replicate}
 use Rattle.std.proofs.Math.Path.{refl, ap, sym}
-use Rattle.std.proofs.Common.{◌∙◌, ⊎_elim, le-leb, eqb→eq, length-set, length-drop, pow-add, take-add, take-suc, get_or-drop, get_or-set_same, get_or-set_other, eq-or-lt_of_le, add-mul, mul_comm, mul-le-mul, pow-suc, add-one}
+use Rattle.std.proofs.Common.{◌∙◌, ⊎_elim, le-leb, eqb→eq, length-set, length-drop, pow-add, take-add, take-suc}
+use Rattle.std.proofs.Common.{get_or-drop, get_or-set_same, get_or-set_other, eq-or-lt_of_le, add-mul, mul_comm, mul-le-mul, pow-suc, add-one}
 use mathlib.Core.List.{List, [], ◌∷◌, ◌++◌, map, map-append}
 use Rattle.std.proofs.Math.Bool.{true, false}
 use Rattle.std.proofs.lemmas.Bool.{lt-leb}

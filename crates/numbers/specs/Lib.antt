@@ -2,6 +2,7 @@ pub mod Digest
 pub mod Buckets
 pub mod Numbers
 pub mod Stores
+pub mod StoreLaws
 pub mod DigestLaws
 pub mod KeyLaws
 pub mod ChainLaws

@@ -6,16 +6,19 @@
 
 pub mod digests;
 
-ghost use Rattle.std.specs.Prelude.{◌≡◌, List, true, ℕ, ◌+◌, ◌*◌, ◌/◌, ◌<◌, ◌≤◌, Option, None, IfSome, is_none, length, get_or, set, drop, replicate};
+ghost use Rattle.std.specs.Prelude.{◌≡◌, List, true, ℕ, ◌+◌, ◌*◌, ◌/◌, ◌<◌, ◌≤◌, length, get_or, set, drop, replicate};
+ghost use Rattle.std.specs.Prelude.{Option, None, IfSome, is_none};
 ghost use Rattle.term_spec.specs.Term.{limit, bracket_kind};
-ghost use Rattle.value.specs.Equal.{TermStore, equal_at, spec_equal_runs};
+ghost use Rattle.value.specs.Equal.{spec_equal_runs};
+ghost use Rattle.value.specs.Store.{terms_equal};
 ghost use Rattle.words.specs.Records.{as_term};
 ghost use Rattle.numbers.specs.Digest.{prime, stride, Marked};
 ghost use Rattle.numbers.specs.Buckets.{buckets, entry};
-ghost use Rattle.numbers.specs.Stores.{Numbered};
-ghost use Rattle.numbers.specs.Numbers.{Numbers, Same, Agree, Readable, key_of, symbol_key, term_key, Tables, Searched, Placed};
+ghost use Rattle.numbers.specs.Numbers.{Numbers, Same, Agree, Readable, key_of, symbol_key, term_key};
+ghost use Rattle.numbers.specs.Stores.{Numbered, TablesOf, Sought, PlacedIn};
 
 use value::store::Store;
+use words::kind::TermKind;
 use words::{Run, Term};
 
 // ---- buckets ----
@@ -89,31 +92,30 @@ fn symbol_digest(names: &[u8], base: usize, t: Term) -> usize
     requires { (base < prime) × Readable names.now t }
     ensures { result ≡ symbol_key base t.kind names.now (as_term t) }
 {
-    if t.kind == words::IDENTIFIER {
-        return digests::digest_text(&names[t.a..t.a + t.b], base, false);
-    }
-    if t.kind == words::NUMBER {
-        return digests::digest_text(&names[t.a..t.a + t.b], base, true);
-    }
-    digests::mix(
-        base,
-        digests::mix(
+    match TermKind::try_from(t.kind) {
+        Ok(TermKind::Identifier) => digests::digest_text(&names[t.a..t.a + t.b], base, false),
+        Ok(TermKind::Number) => digests::digest_text(&names[t.a..t.a + t.b], base, true),
+        _ => digests::mix(
             base,
-            digests::mix(base, digests::mix(base, 0, t.a), t.b),
-            t.c,
+            digests::mix(
+                base,
+                digests::mix(base, digests::mix(base, 0, t.a), t.b),
+                t.c,
+            ),
+            t.d,
         ),
-        t.d,
-    )
+    }
 }
 
 // The digest of a term, the terms below it having their numbers.
+#[tactic(auto, using(crate::specs::KeyLaws::key_bracket, crate::specs::KeyLaws::key_symbol, crate::specs::StoreLaws::digests_below))]
 fn term_digest(names: &[u8], numbers: &[u16], marks: &[u32], base: usize, t: Term) -> usize
     requires readable { (base < prime) × Readable names.now t }
     requires below { let end = t.a + t.b in
         (t.kind ≡ bracket_kind → (end ≤ length numbers.now) × (end ≤ limit) × Marked base numbers.now marks.now end) }
     ensures { result ≡ term_key base t.kind names.now numbers.now (as_term t) }
 {
-    if t.kind == words::BRACKET {
+    if t.is(TermKind::Bracket) {
         return digests::mix(
             base,
             digests::digest_part(numbers, marks, base, t.a, t.b),
@@ -219,32 +221,20 @@ pub fn equal_numbered(numbers: &[u16], first: Run, second: Run) -> bool
 }
 
 // What it took to tell terms c and k apart, the terms below them having their numbers; none if they are equal.
-fn apart_above(names: &[u8], terms: &[u32], numbers: &[u16], c: usize, k: usize) -> Option<usize>
-    requires { (used : ℕ) × (TermStore names.now terms.now used × (c < k) × (k < used) × (used ≤ limit)
-        × Numbers names.now terms.now used k numbers.now) }
-    ensures { let text = names.now in
-        let store = terms.now in
-        (IfSome result (λ cost. cost ≤ limit))
-        × ((used : ℕ) → TermStore text store used → c < k → k < used → Numbers text store used k numbers.now
-        → is_none result ≡ equal_at text store used c k) }
+#[tactic(auto, using(crate::specs::StoreLaws::two_terms))]
+fn apart_above(store: &Store, numbers: &[u16], c: usize, k: usize) -> Option<usize>
+    requires { (c < k) × (k < store.now.used) × Numbered store.now k numbers.now }
+    ensures { (IfSome result (λ cost. cost ≤ limit)) × (is_none result ≡ terms_equal store.now c k) }
 {
-    let t = words::get::<Term>(terms, c);
-    let u = words::get::<Term>(terms, k);
+    let t = words::get::<Term>(store.terms, c);
+    let u = words::get::<Term>(store.terms, k);
     if t.kind != u.kind {
         return Some(1);
     }
-    if t.kind == words::BRACKET {
-        let first = Run {
-            start: t.a,
-            len: t.b,
-        };
-        let second = Run {
-            start: u.a,
-            len: u.b,
-        };
-        return runs_apart(numbers, first, second);
+    if t.is(TermKind::Bracket) {
+        return runs_apart(numbers, t.contents(), u.contents());
     }
-    if value::equal_symbols(names, t, u) {
+    if value::equal_symbols(store.names, t, u) {
         return None;
     }
     Some(1)
@@ -260,28 +250,14 @@ struct Found {
 }
 
 // A term that is equal to term k, which belongs to bucket b.
-fn find_equal(
-    names: &[u8],
-    terms: &[u32],
-    numbers: &[u16],
-    chains: &Chains,
-    b: usize,
-    k: usize,
-) -> Found
-    requires { (used base : ℕ) × ((b < buckets)
-        × Searched base names.now terms.now used numbers.now chains.now.heads chains.now.earlier k (get_or chains.now.heads b 0)) }
-    ensures { let text = names.now in
-        let store = terms.now in
-        let known = numbers.now in
-        let heads = chains.now.heads in
-        (result.cost ≤ k * limit)
-        × ((used base : ℕ) → Searched base text store used known heads chains.now.earlier k (get_or heads b 0)
-        → Placed text store used known k (entry result.place)) }
+fn find_equal(store: &Store, numbers: &[u16], chains: &Chains, b: usize, k: usize) -> Found
+    requires { (base : ℕ) × (b < buckets) × Sought base store.now numbers.now chains.now k (get_or chains.now.heads b 0) }
+    ensures { (result.cost ≤ k * limit) × PlacedIn store.now numbers.now k (entry result.place) }
 {
     let mut cost = 0;
     let mut at = chains.last(b);
     while let Some(c) = at {
-        match apart_above(names, terms, numbers, c, k) {
+        match apart_above(store, numbers, c, k) {
             None => {
                 return Found {
                     place: Some(c),
@@ -305,9 +281,9 @@ struct Number {
 }
 
 // The number of term k, the terms below it having theirs. A term that no other is equal to is entered.
+#[tactic(auto, using(crate::specs::StoreLaws::two_terms, crate::proofs::TablesLaws::key_low))]
 fn number_of(
-    names: &[u8],
-    terms: &[u32],
+    store: &Store,
     numbers: &[u16],
     marks: &[u32],
     chains: &mut Chains,
@@ -315,17 +291,14 @@ fn number_of(
     k: usize,
 ) -> Number
     requires marked { (base < prime) × Marked base numbers.now marks.now k }
-    requires tables { (used : ℕ) × ((k < used) × Tables base names.now terms.now used k numbers.now chains.old.heads chains.old.earlier) }
-    ensures { let tables = Tables base names.now terms.now in
-        let before = numbers.now in
-        (result.number ≤ k)
+    requires tables { (k < store.now.used) × TablesOf base store.now k numbers.now chains.old }
+    ensures { (result.number ≤ k)
         × (result.cost ≤ limit * limit)
-        × ((used : ℕ) → k < used → tables used k before chains.old.heads chains.old.earlier
-        → tables used (k + 1) (set before k result.number) chains.new.heads chains.new.earlier) }
+        × TablesOf base store.now (k + 1) (set numbers.now k result.number) chains.new }
 {
-    let t = words::get::<Term>(terms, k);
-    let b = bucket_of(names, numbers, marks, base, t);
-    let found = find_equal(names, terms, numbers, chains, b, k);
+    let t = words::get::<Term>(store.terms, k);
+    let b = bucket_of(store.names, numbers, marks, base, t);
+    let found = find_equal(store, numbers, chains, b, k);
     match found.place {
         Some(c) => Number {
             number: c,
@@ -350,26 +323,25 @@ struct Way {
 
 // Every used term gets its number, with tables that are lent empty. The answer is whether all have theirs: it ends before where the cost is too much.
 fn number_with(
-    names: &[u8],
-    terms: &[u32],
-    used: usize,
+    store: &Store,
     way: Way,
     numbers: &mut [u16],
     marks: &mut [u32],
     chains: &mut Chains,
 ) -> bool
-    requires store { TermStore names.now terms.now used × (used ≤ limit) × (used ≤ length numbers.old) × (way.base < prime) }
+    requires room { (store.now.used ≤ length numbers.old) × (way.base < prime) }
     requires marks { (limit / stride < length marks.old) × Marked way.base numbers.old marks.old 0 }
-    requires tables { Tables way.base names.now terms.now used 0 numbers.old chains.old.heads chains.old.earlier }
-    ensures { (result ≡ true → Numbers names.now terms.now used used numbers.new)
+    requires tables { TablesOf way.base store.now 0 numbers.old chains.old }
+    ensures { let used = store.now.used in
+        (result ≡ true → Numbered store.now used numbers.new)
         × (way.most ≡ None → result ≡ true)
         × (drop used numbers.new ≡ drop used numbers.old)
         × (length numbers.new ≡ length numbers.old) }
 {
     let mut sum = 0;
     let mut cost = 0;
-    for k in 0..used {
-        let got = number_of(names, terms, numbers, marks, chains, way.base, k);
+    for k in 0..store.used {
+        let got = number_of(store, numbers, marks, chains, way.base, k);
         numbers[k] = got.number as u16;
         sum = digests::mix(way.base, sum, got.number);
         cost += got.cost;
@@ -386,16 +358,17 @@ fn number_with(
 }
 
 // Every used term gets its number, or the answer is no. The tables take 168 KB of stack.
-fn number_within(names: &[u8], terms: &[u32], used: usize, way: Way, numbers: &mut [u16]) -> bool
-    requires { TermStore names.now terms.now used × (used ≤ limit) × (used ≤ length numbers.old) × (way.base < prime) }
-    ensures { (result ≡ true → Numbers names.now terms.now used used numbers.new)
+fn number_within(store: &Store, way: Way, numbers: &mut [u16]) -> bool
+    requires { (store.now.used ≤ length numbers.old) × (way.base < prime) }
+    ensures { let used = store.now.used in
+        (result ≡ true → Numbered store.now used numbers.new)
         × (way.most ≡ None → result ≡ true)
         × (drop used numbers.new ≡ drop used numbers.old)
         × (length numbers.new ≡ length numbers.old) }
 {
     let mut marks = [0u32; digests::MARKS];
     let mut chains = Chains::new();
-    number_with(names, terms, used, way, numbers, &mut marks, &mut chains)
+    number_with(store, way, numbers, &mut marks, &mut chains)
 }
 
 // How many bases are tried before any cost is allowed. A store can be made slow for one base and for some more: an unknown has 98 bits, and each base at
@@ -413,26 +386,16 @@ pub fn number_terms(store: &Store, numbers: &mut [u16])
         × (drop used numbers.new ≡ drop used numbers.old)
         × (length numbers.new ≡ length numbers.old) }
 {
-    number_terms_of(store.names, store.terms, store.used, numbers);
-}
-
-// Every used term gets its number.
-pub fn number_terms_of(names: &[u8], terms: &[u32], used: usize, numbers: &mut [u16])
-    requires { TermStore names.now terms.now used × (used ≤ limit) × (used ≤ length numbers.old) }
-    ensures { Numbers names.now terms.now used used numbers.new
-        × (drop used numbers.new ≡ drop used numbers.old)
-        × (length numbers.new ≡ length numbers.old) }
-{
     let mut base = digests::BASE;
     for _ in 0..TRIES {
         let way = Way {
             base,
             most: Some(MOST),
         };
-        if number_within(names, terms, used, way, numbers) {
+        if number_within(store, way, numbers) {
             return;
         }
         base = base * digests::BASE % digests::PRIME;
     }
-    number_within(names, terms, used, Way { base, most: None }, numbers);
+    number_within(store, Way { base, most: None }, numbers);
 }

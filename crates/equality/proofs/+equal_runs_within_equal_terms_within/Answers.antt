@@ -1,5 +1,6 @@
 -- Each exit is one law of equality.
-use Rattle.std.proofs.Common.{◌≡◌, List, true, ℕ, ◌+◌, ◌≤◌, arith, rules, sym, ◌∙◌}
+use Rattle.std.proofs.Common.{◌≡◌, List, true, ℕ, ◌+◌, ◌≤◌, arith, rules, refl, sym, ◌∙◌, eqb-true}
+use Rattle.std.proofs.lemmas.Bool.{eqb-false}
 use Rattle.value.specs.Equal.{equal_at}
 use Rattle.value.specs.EqualLaws.{depth_inside, runs_lengths, runs_same, runs-all, runs_none}
 use Rattle.term_spec.specs.Words.{record_at}
@@ -8,7 +9,7 @@ use Rattle.words.specs.declared.Term.{Term}
 use Rattle.words.specs.Records.{as_term, as_run}
 use Rattle.equality.specs.Within.{TermsIn, RunsIn, Tells}
 use Rattle.equality.specs.WithinLaws.{tells_different, tells-equal}
-use Rattle.equality.specs.TwoLaws.{Two, two_differ, two_texts, two_symbols, two_chars, two_chars_apart, two_brackets, two-contents, two_shallow, terms-inside}
+use Rattle.equality.specs.TwoLaws.{Two, two_differ, two_texts, two_symbols, two_chars, two_chars_apart, two_alike, two_inside, two_less, terms-inside}
 use Rattle.equality.specs.TwoLaws.{runs_next}
 use Rattle.equality.proofs.+equal_runs_within_equal_terms_within.Goals as goal
 
@@ -89,24 +90,28 @@ equal_terms_within-returns-then-t-u t c used lies =
 pub equal_terms_within-returns-then-t-u-2 : goal.equal_terms_within-returns-then-t-u-2
 unfolding Tells
 equal_terms_within-returns-then-t-u-2 t c used lies =
-    (two_chars_apart (two lies c.get-t.ensures c.get-u.ensures) c.if-t-eq-CHAR.true c.if-t-u.false c.if-t-u-2.true, omega arith)
+    let char = eqb-true _ _ (sym c.is.ensures ∙ c.if-is.true) in
+    (two_chars_apart (two lies c.get-t.ensures c.get-u.ensures) char c.if-t-u.false c.if-t-u-2.true, omega arith)
 
-pub equal_terms_within-returns-then-t-eq-CHAR : goal.equal_terms_within-returns-then-t-eq-CHAR
+pub equal_terms_within-returns-then-is : goal.equal_terms_within-returns-then-is
 unfolding Tells
-equal_terms_within-returns-then-t-eq-CHAR t c used lies =
-    (two_chars (two lies c.get-t.ensures c.get-u.ensures) c.if-t-eq-CHAR.true c.if-t-u.false c.if-t-u-2.false, omega arith)
+equal_terms_within-returns-then-is t c used lies =
+    let char = eqb-true _ _ (sym c.is.ensures ∙ c.if-is.true) in
+    (two_chars (two lies c.get-t.ensures c.get-u.ensures) char c.if-t-u.false c.if-t-u-2.false, omega arith)
 
 pub equal_terms_within-equal_runs_within-requires : goal.equal_terms_within-equal_runs_within-requires
 equal_terms_within-equal_runs_within-requires t c =
+    let bracket = eqb-true _ _ (sym c.is-2.ensures ∙ c.if-is-2.true) in
     let here = two c.requires.1 c.get-t.ensures c.get-u.ensures in
-    let less = two_shallow here c.if-t-eq-BRACKET.true c.if-t-u.false in
-    (omega (arith, less, c.decreases), (c.requires.0, two-contents here c.if-t-eq-BRACKET.true c.if-t-u.false))
+    let less = two_less here bracket c.if-t-u.false c.contents.ensures c.contents-then-is-2.ensures refl in
+    (omega (arith, less, c.decreases), (c.requires.0, two_inside here bracket c.if-t-u.false c.contents.ensures c.contents-then-is-2.ensures))
 
-pub equal_terms_within-returns-then-t-eq-BRACKET : goal.equal_terms_within-returns-then-t-eq-BRACKET
-equal_terms_within-returns-then-t-eq-BRACKET t c used lies =
+pub equal_terms_within-returns-then-is-2 : goal.equal_terms_within-returns-then-is-2
+equal_terms_within-returns-then-is-2 t c used lies =
+    let bracket = eqb-true _ _ (sym c.is-2.ensures ∙ c.if-is-2.true) in
     let here = two lies c.get-t.ensures c.get-u.ensures in
-    let contents = two-contents here c.if-t-eq-BRACKET.true c.if-t-u.false in
-    rw (two_brackets here c.if-t-eq-BRACKET.true c.if-t-u.false) at (c.equal_runs_within.ensures used contents)
+    let inside = two_inside here bracket c.if-t-u.false c.contents.ensures c.contents-then-is-2.ensures in
+    rw (two_alike here bracket c.if-t-u.false c.contents.ensures c.contents-then-is-2.ensures) at (c.equal_runs_within.ensures used inside)
 
 pub equal_terms_within-equal_symbols-requires-clause-texts : goal.equal_terms_within-equal_symbols-requires-clause-texts
 equal_terms_within-equal_symbols-requires-clause-texts t c = two_texts (two c.requires.1 c.get-t.ensures c.get-u.ensures)
@@ -114,11 +119,13 @@ equal_terms_within-equal_symbols-requires-clause-texts t c = two_texts (two c.re
 pub equal_terms_within-returns-then-equal_symbols : goal.equal_terms_within-returns-then-equal_symbols
 unfolding Tells
 equal_terms_within-returns-then-equal_symbols t c used lies =
-    let symbols = two_symbols (two lies c.get-t.ensures c.get-u.ensures) c.if-t-u.false c.if-t-eq-BRACKET.false in
+    let other = eqb-false _ _ (sym c.is-2.ensures ∙ c.if-is-2.false) in
+    let symbols = two_symbols (two lies c.get-t.ensures c.get-u.ensures) c.if-t-u.false other in
     (sym (c.equal_symbols.ensures ∙ symbols) ∙ c.if-equal_symbols.true, omega arith)
 
 pub equal_terms_within-returns : goal.equal_terms_within-returns
 unfolding Tells
 equal_terms_within-returns t c used lies =
-    let symbols = two_symbols (two lies c.get-t.ensures c.get-u.ensures) c.if-t-u.false c.if-t-eq-BRACKET.false in
+    let other = eqb-false _ _ (sym c.is-2.ensures ∙ c.if-is-2.false) in
+    let symbols = two_symbols (two lies c.get-t.ensures c.get-u.ensures) c.if-t-u.false other in
     (sym (c.equal_symbols.ensures ∙ symbols) ∙ c.if-equal_symbols.false, omega arith)

@@ -30,11 +30,11 @@ returns-then-used-m c = elim c.then-used-m.branch [
   | then-used-m-via-else-used-m+then-used-m-2 w ↦ compared_second _ _ _ _ _ _ _ c.in_ok-check_terms.ensures refl (omega arith) (omega arith)
 ]
 
-pub equal_alone-requires : goal.equal_alone-requires
+pub invariant_of-store : goal.invariant_of-store
 unfolding told_number
-equal_alone-requires c =
+invariant_of-store c =
     let e = c.in_ok-check_terms.ensures in
-    record { store = store_of _ _ _ e refl; few = store_few _ _ _ e refl; first = omega arith; second = omega arith }
+    record { good = store_of _ _ _ e refl; few = store_few _ _ _ e refl }
 
 pub returns : goal.returns
 unfolding answer_of told_number

@@ -3,4 +3,4 @@ use Rattle.std.proofs.Common.{arith}
 use Rattle.equality.proofs.equal_by_numbers.Goals as goal
 
 pub returns : goal.returns
-returns c = let lies = c.requires in c.equal_numbered.ensures _ _ _ _ c.number_terms_of.ensures.0 lies.first lies.second (omega arith)
+returns c = c.equal_numbered.ensures _ _ _ _ c.number_terms.ensures.0 c.requires.0 c.requires.1 (omega arith)

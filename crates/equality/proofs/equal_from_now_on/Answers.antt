@@ -5,6 +5,6 @@ use Rattle.equality.proofs.equal_from_now_on.Goals as goal
 
 pub returns : goal.returns
 returns c =
-    let lies = c.requires.runs in
-    let numbers = c.number_terms_of.ensures.0 in
-    (c.equal_numbered.ensures _ _ _ _ (numbers_kept 65535 numbers) lies.first lies.second (omega arith), memory_numbered 65535 numbers)
+    let lies = c.requires.within in
+    let numbers = c.number_terms.ensures.0 in
+    (c.equal_numbered.ensures _ _ _ _ (numbers_kept 65535 numbers) lies.0 lies.1 (omega arith), memory_numbered 65535 numbers)

@@ -2,14 +2,12 @@
 use Rattle.std.proofs.Common.{ℕ, ◌+◌, ◌*◌, ◌≤◌, get_or}
 use Rattle.term_spec.specs.Term.{limit}
 use Rattle.numbers.specs.Buckets.{entry}
-use Rattle.numbers.specs.Numbers.{Searched}
+use Rattle.numbers.specs.Stores.{Sought}
 use Rattle.numbers.proofs.find_equal.Given as goal
 
 abbrev pub invariant-loop-at : goal.invariant-loop-at
 invariant-loop-at l = record {
-  sought : (used base : ℕ)
-      → Searched base l.names l.terms used l.numbers l.chains.heads l.chains.earlier l.k (get_or l.chains.heads l.b 0)
-      → Searched base l.names l.terms used l.numbers l.chains.heads l.chains.earlier l.k (entry l.at);
+  sought : (base : ℕ) × Sought base l.store l.numbers l.chains l.k (entry l.at);
   paid : l.cost + entry l.at * limit ≤ get_or l.chains.heads l.b 0 * limit;
 }
 

@@ -8,7 +8,7 @@ pub loop-k-init : goal.loop-k-init
 loop-k-init c = record { numbered = numbering_start c.requires.tables c.requires.marks.1 c.requires.marks.0; paid = omega arith }
 
 pub mix-sum-requires : goal.mix-sum-requires
-mix-sum-requires c = (c.requires.store.3, sum_below c.loop-k.invariant.numbered)
+mix-sum-requires c = (c.requires.room.1, sum_below c.loop-k.invariant.numbered)
 
 pub set_word-requires : goal.set_word-requires
 set_word-requires c =
@@ -21,7 +21,7 @@ pub loop-k-preserved : goal.loop-k-preserved
 loop-k-preserved c =
     let was = c.loop-k.invariant.numbered in
     let inside = c.loop-k-test.true in
-    let tables = c.number_of-got.ensures.2 _ inside was.tables in
+    let tables = c.number_of-got.ensures.2 in
     record {
       numbered = elim c.if-k-eq0.branch [
         | then-k-eq0 w ↦ rw (w.marks-is, w.set_word.ensures) (numbering_marked was _ inside c.mix-sum.ensures tables w.if-k-eq0.true)

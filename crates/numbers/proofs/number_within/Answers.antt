@@ -11,5 +11,5 @@ number_with-requires-clause-marks c = (omega arith, marked_none _ (limit / strid
 
 pub number_with-requires-clause-tables : goal.number_with-requires-clause-tables
 number_with-requires-clause-tables c =
-    let pre = c.requires in
-    rw (c.new-chains.ensures.0, c.new-chains.ensures.1) (tables_none _ _ _ _ _ pre.0 pre.1 pre.2)
+    let store = c.args.store.now in
+    rw (c.new-chains.ensures.0, c.new-chains.ensures.1) (tables_none _ _ _ _ _ store.good store.few c.requires.0)
