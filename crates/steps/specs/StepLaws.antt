@@ -2,8 +2,9 @@
 use Rattle.std.specs.Prelude.{◌≡◌, List, [], ◌∷◌, ◌++◌, Bool, true, false, T, eqb, set, drop}
 use Rattle.std.proofs.Math.Path.{refl, ap, sym}
 use Rattle.std.proofs.Common.{ap₂, subst, ◌∙◌, eq-eqb, ne_eqb}
-use Rattle.std.proofs.Math.ListN.{length, get_or, drop_of_length-le}
+use Rattle.std.proofs.Math.ListN.{length, get_or, drop_of_length-le, take}
 use Rattle.std.proofs.Math.Seq.{drop-cons}
+use Rattle.std.proofs.lemmas.List.{set-get_or}
 use Prim.Native.Nat.{ℕ, suc, zero, ◌+◌, ◌-◌, ◌*◌, ◌/◌, ◌<◌, ◌≤◌}
 use native.Mathlib.Omega.{arith}
 use Rattle.std.proofs.Math.Decide.{dec_lt}
@@ -12,12 +13,13 @@ use Rattle.term_spec.specs.Text.{text_at}
 use Rattle.term_spec.specs.Words.{decode, record_at, records, count}
 use Rattle.term_spec.proofs.WordsLaws.{decode-at, decode-length}
 use Rattle.term_spec.specs.Term.{Term, Run, no_run, term_layout, no_term, contents_run, term_rule_k}
-use Rattle.term_spec.specs.Value.{Single, symbol, term, row, value_k, value_of, canon, sames?}
+use Rattle.term_spec.specs.Value.{Single, symbol, term, row, value_k, value_of, canon, sames?, takes?, is_yes}
 use Rattle.match_spec.specs.Element.{Element, lit, opening, closing, call, one, many, canon_e}
 use Rattle.match_spec.specs.Pattern.{Item, no_item, item_layout, element, element_k, item_rule_k}
+use Rattle.match_spec.specs.Pattern.{open_kind, close_kind, symbol_variable_kind, term_variable_kind, expression_variable_kind, nesting_limit, name_limit}
 use Rattle.match_spec.specs.Walk.{Reading, cells_of, runs, strip, ends}
 use Rattle.match_spec.proofs.RunLaws.{Inside}
-use Rattle.value.specs.Equal.{Texts, TermStore, spec_equal_symbols, spec_equal_runs}
+use Rattle.value.specs.Equal.{Texts, TermStore, spec_equal_symbols, spec_equal_runs, values_in}
 use Rattle.value.specs.EqualLaws.{in_names, texts_at}
 use Rattle.kinds.specs.Kinds.{takes_term}
 use Rattle.items.specs.Records.{term_of_item}
@@ -104,11 +106,17 @@ pub top_in : (used : ℕ) (s : Place) → Stands used s → s.start + s.len ≤ 
 unfolding All
 top_in used s h = h.levels_in.0
 
+pub left_in : (used a b : ℕ) (st : List Run) → All (Inside used) (record { start = a; len = b } ∷ st) → a + b ≤ used
+unfolding All
+left_in used a b st h = h.0
+
 -- ---- words of levels ----
 
 -- A turn that leaves the levels' words.
 pub levels-same : (d : ℕ) (m : Turned) (lv : List ℕ) → LevelsKept d m lv lv
 levels-same d m lv = record { back = restores-same d lv; same = λ n. refl }
+
+pub ruleset levels_left = (set-get_or)
 
 -- A turn that goes on after it wrote level d.
 pub wrote_next : (d : ℕ) (s : State) (lv after : List ℕ) (a b : ℕ) → after ≡ set (set lv (2 * d) a) (2 * d + 1) b → LevelsKept d (Next s) lv after
@@ -172,6 +180,8 @@ module _ (names w : List ℕ) (used : ℕ) (t : Item) (x : ℕ) (last : Bool) (r
     literal_equals e =
         rw (coded_literal names t x h) (sym (first_some names w used r st _ u at inside some ∙ if_yes _ _ (sym (literal_value names _ u _ h) ∙ sym q ∙ e)))
 
+pub ruleset literal_turns = (literal_none, literal_differs, literal_same)
+
 -- ---- brackets ----
 
 module _ (names w : List ℕ) (used : ℕ) (last : Bool) (r : Run) (st env : List Run) where
@@ -200,6 +210,8 @@ module _ (names w : List ℕ) (used : ℕ) (last : Bool) (r : Run) (st env : Lis
     pub close_ended : r.len ≡ 0 → next (q ∷ more) env ≡ turn_in names w used closing last (r ∷ st) env
     unfolding turn turn_leave
     close_ended n = rw e (sym (empty_yes names w used r _ n))
+
+pub ruleset open_turns = (open_none, open_other)
 
 -- ---- variables that take one term ----
 
@@ -230,46 +242,78 @@ unfolding turn_bind
 bind-new rd n x st env (yes k) h = absurd (omega arith)
 bind-new rd n x st env (no k) h = refl
 
+-- what it takes goes by the row of its kind
+module _ (names w : List ℕ) (used : ℕ) (j : Single) (x : ℕ) (last : Bool) (r : Run) (st env : List Run) where
+  pub one_none : r.len ≡ 0 → stop ≡ turn_in names w used (one j x) last (r ∷ st) env
+  unfolding turn
+  one_none e = sym (first_none names w used r st _ e)
+
+  module _ (u : Term) (at : u ≡ record_at term_layout w r.start) (inside : r.start + r.len ≤ used) (some : r.len ≡ 0 → ⊥) {k : ℕ} (is : row j ≡ k)
+      {b : Bool} (takes : b ≡ takes_term k u) where
+    one_takes : b ≡ is_yes (takes? j (canon (value_of names u (take r.start (values_in names w used)))))
+    one_takes = takes ∙ ap (λ z. takes_term z u) (sym is) ∙ sym (takes_record j names u _)
+
+    pub one_refused : b ≡ false → stop ≡ turn_in names w used (one j x) last (r ∷ st) env
+    unfolding turn
+    one_refused e = sym (first_some names w used r st _ u at inside some ∙ if_no _ _ (sym one_takes ∙ e))
+
+    module _ (e : b ≡ true) where
+      one_taken : turn_in names w used (one j x) last (r ∷ st) env
+          ≡ turn_bind (runs names (decode term_layout used w)) x (record { start = r.start; len = 1 }) (back_of 1 r ∷ st) env (dec_lt x (length env))
+      unfolding turn
+      one_taken = first_some names w used r st _ u at inside some ∙ if_yes _ _ (sym one_takes ∙ e)
+
+      pub one_new : length env ≤ x
+          → next (back_of 1 r ∷ st) (env ++ (record { start = r.start; len = 1 } ∷ []))
+          ≡ turn_in names w used (one j x) last (r ∷ st) env
+      one_new n = sym (one_taken ∙ bind-new _ x _ _ env _ n)
+
+      module _ (v : Run) (known : x < length env) (entry : v ≡ get_or env x no_run) {c : Bool}
+          (same : c ≡ spec_equal_runs names w used v.start v.len r.start 1) where
+        one_known : turn_in names w used (one j x) last (r ∷ st) env
+            ≡ turn_if (sames? (cells_in names w used v) (cells_in names w used (record { start = r.start; len = 1 })))
+            (next (back_of 1 r ∷ st) env)
+        one_known = one_taken ∙ bind_known _ x _ _ env _ known ∙ rw (← entry) refl
+
+        pub one_differs : c ≡ false → stop ≡ turn_in names w used (one j x) last (r ∷ st) env
+        unfolding spec_equal_runs cells_of
+        one_differs d = sym (one_known ∙ if_no _ _ (sym same ∙ d))
+
+        pub one_equals : c ≡ true → next (back_of 1 r ∷ st) env ≡ turn_in names w used (one j x) last (r ∷ st) env
+        unfolding spec_equal_runs cells_of
+        one_equals d = sym (one_known ∙ if_yes _ _ (sym same ∙ d))
+
+-- so does a record of such a kind
 module _ (names w : List ℕ) (used : ℕ) (t : Item) (x : ℕ) (last : Bool) (r : Run) (st env : List Run) (low : 5 ≤ t.kind) (high : t.kind ≤ 6) where
   pub single_none : r.len ≡ 0 → stop ≡ turn_in names w used (coded names t x) last (r ∷ st) env
-  unfolding turn
-  single_none e = let (j, p, q) = coded_single names t x low high in rw q (sym (first_none names w used r st _ e))
+  single_none e = let (j, p, q) = coded_single names t x low high in rw q (one_none names w used j x last r st env e)
 
   module _ (u : Term) (at : u ≡ record_at term_layout w r.start) (inside : r.start + r.len ≤ used) (some : r.len ≡ 0 → ⊥) {b : Bool}
       (takes : b ≡ takes_term (t.kind - 5) u) where
     pub single_refused : b ≡ false → stop ≡ turn_in names w used (coded names t x) last (r ∷ st) env
-    unfolding turn
     single_refused e =
         let (j, p, q) = coded_single names t x low high in
-        rw q (sym (first_some names w used r st _ u at inside some ∙ if_no _ _ (takes_record j names u _ ∙ ap (λ z. takes_term z u) p ∙ sym takes ∙ e)))
+        rw q (one_refused names w used j x last r st env u at inside some p takes e)
 
     module _ (e : b ≡ true) where
-      single_taken : turn_in names w used (coded names t x) last (r ∷ st) env
-          ≡ turn_bind (runs names (decode term_layout used w)) x (record { start = r.start; len = 1 }) (back_of 1 r ∷ st) env (dec_lt x (length env))
-      unfolding turn
-      single_taken =
-          let (j, p, q) = coded_single names t x low high in
-          rw q (first_some names w used r st _ u at inside some ∙ if_yes _ _ (takes_record j names u _ ∙ ap (λ z. takes_term z u) p ∙ sym takes ∙ e))
-
       pub single_new : length env ≤ x
           → next (back_of 1 r ∷ st) (env ++ (record { start = r.start; len = 1 } ∷ []))
           ≡ turn_in names w used (coded names t x) last (r ∷ st) env
-      single_new n = sym (single_taken ∙ bind-new _ x _ _ env _ n)
+      single_new n = let (j, p, q) = coded_single names t x low high in rw q (one_new names w used j x last r st env u at inside some p takes e n)
 
       module _ (v : Run) (known : x < length env) (entry : v ≡ get_or env x no_run) {c : Bool}
           (same : c ≡ spec_equal_runs names w used v.start v.len r.start 1) where
-        single_known : turn_in names w used (coded names t x) last (r ∷ st) env
-            ≡ turn_if (sames? (cells_in names w used v) (cells_in names w used (record { start = r.start; len = 1 })))
-            (next (back_of 1 r ∷ st) env)
-        single_known = single_taken ∙ bind_known _ x _ _ env _ known ∙ rw (← entry) refl
-
         pub single_differs : c ≡ false → stop ≡ turn_in names w used (coded names t x) last (r ∷ st) env
-        unfolding spec_equal_runs cells_of
-        single_differs d = sym (single_known ∙ if_no _ _ (sym same ∙ d))
+        single_differs d =
+            let (j, p, q) = coded_single names t x low high in
+            rw q (one_differs names w used j x last r st env u at inside some p takes e v known entry same d)
 
         pub single_equals : c ≡ true → next (back_of 1 r ∷ st) env ≡ turn_in names w used (coded names t x) last (r ∷ st) env
-        unfolding spec_equal_runs cells_of
-        single_equals d = sym (single_known ∙ if_yes _ _ (sym same ∙ d))
+        single_equals d =
+            let (j, p, q) = coded_single names t x low high in
+            rw q (one_equals names w used j x last r st env u at inside some p takes e v known entry same d)
+
+pub ruleset single_turns = (one_none, one_refused, one_differs)
 
 -- ---- e-variables ----
 
@@ -344,6 +388,21 @@ fine_kinds (suc (suc (suc j))) x d b l h = absurd (omega arith)
 pub fine-name : (k x d b : ℕ) → 5 ≤ k → k ≤ 7 → Fine k x d b → (x ≤ b) × (x < 64)
 fine-name k x d b l u h = let e : k ≡ suc (suc (suc (suc (suc (k - 5))))) = omega arith in fine_kinds (k - 5) x d b (omega arith) (rw e at h)
 
+-- each kind by its name, as a test by cases has it
+pub fine_is_open : (k x d b : ℕ) → Fine k x d b → open_kind ≡ k → d < nesting_limit
+fine_is_open k x d b h e = fine-open k x d b (sym e) h
+
+pub fine_is_close : (k x d b : ℕ) → Fine k x d b → close_kind ≡ k → 1 ≤ d
+fine_is_close k x d b h e = fine_close k x d b (sym e) h
+
+pub fine_is_known : (k x d b : ℕ) → Fine k x d b → symbol_variable_kind ≤ k → k ≤ expression_variable_kind → x ≤ b
+fine_is_known k x d b h l u = (fine-name k x d b l u h).0
+
+pub fine_is_small : (k x d b : ℕ) → Fine k x d b → symbol_variable_kind ≤ k → k ≤ expression_variable_kind → x < name_limit
+fine_is_small k x d b h l u = (fine-name k x d b l u h).1
+
+pub ruleset record_asks = (left_in, fine_is_open, fine_is_close, fine_is_known, fine_is_small)
+
 module _ (names : List ℕ) (t : Item) (x : ℕ) where
   coded-open : t.kind ≡ 3 → coded names t x ≡ opening
   unfolding coded element renamed canon_e element_k
@@ -361,6 +420,24 @@ module _ (names : List ℕ) (t : Item) (x : ℕ) where
   unfolding coded element renamed canon_e element_k
   coded_call l = let e : t.kind ≡ suc (suc (suc (suc (suc (suc (suc (suc (t.kind - 8)))))))) = omega arith in rw e refl
 
+  -- each kind by its name, as a test by cases has it
+  pub coded_is_open : open_kind ≡ t.kind → coded names t x ≡ opening
+  coded_is_open e = coded-open (sym e)
+
+  pub coded_is_close : close_kind ≡ t.kind → coded names t x ≡ closing
+  coded_is_close e = coded_close (sym e)
+
+  pub coded_is_symbol : symbol_variable_kind ≡ t.kind → coded names t x ≡ one symbol x
+  unfolding coded element renamed canon_e element_k
+  coded_is_symbol e = rw (sym e) refl
+
+  pub coded_is_term : term_variable_kind ≡ t.kind → coded names t x ≡ one term x
+  unfolding coded element renamed canon_e element_k
+  coded_is_term e = rw (sym e) refl
+
+  pub coded_is_many : expression_variable_kind ≡ t.kind → coded names t x ≡ many x
+  coded_is_many e = coded_many (sym e)
+
   -- so the record does what its element does
   module _ (w : List ℕ) (used : ℕ) (last : Bool) (ls env : List Run) where
     pub turn-open : t.kind ≡ 3 → turn_in names w used opening last ls env ≡ turn_in names w used (coded names t x) last ls env
@@ -375,6 +452,8 @@ module _ (names : List ℕ) (t : Item) (x : ℕ) where
     pub turn_call : 8 ≤ t.kind → called ≡ turn_in names w used (coded names t x) last ls env
     unfolding turn
     turn_call l = rw (coded_call l) refl
+
+pub ruleset record_turns = (coded_is_open, coded_is_close, coded_is_symbol, coded_is_term, coded_is_many, turn_call)
 
 -- ---- a known e-variable that ends its level ----
 
@@ -430,3 +509,8 @@ module _ (w : List ℕ) (p : ℕ) (names numbers : List ℕ) where
       let (ys, q) = coded-drop p names (decode item_layout (length w / 4) w) numbers in
       let d : p < length (decode item_layout (length w / 4) w) = rw decode-length h in
       rw (q, drop-cons (decode item_layout (length w / 4) w) p no_item d, decode-at item_layout (length w / 4) p w no_item h, ← e) (sym (ends-first names t _ ys))
+
+  pub ends_at_record : p < length w / 4 → ends (drop p (coded_all names (records item_layout w) numbers)) ≡ eqb (record_at item_layout w p).kind close_kind
+  ends_at_record h = sym (ends_record h _ refl)
+
+pub ruleset level_ends = (ends_past, ends_at_record)
