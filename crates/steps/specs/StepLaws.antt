@@ -116,8 +116,6 @@ left_in used a b st h = h.0
 pub levels-same : (d : ℕ) (m : Turned) (lv : List ℕ) → LevelsKept d m lv lv
 levels-same d m lv = record { back = restores-same d lv; same = λ n. refl }
 
-pub ruleset levels_left = (set-get_or)
-
 -- A turn that goes on after it wrote level d.
 pub wrote_next : (d : ℕ) (s : State) (lv after : List ℕ) (a b : ℕ) → after ≡ set (set lv (2 * d) a) (2 * d + 1) b → LevelsKept d (Next s) lv after
 wrote_next d s lv after a b q = record { back = rw q (restores-two d lv a b); same = λ n. absurd (n s refl) }
@@ -211,7 +209,7 @@ module _ (names w : List ℕ) (used : ℕ) (last : Bool) (r : Run) (st env : Lis
     unfolding turn turn_leave
     close_ended n = rw e (sym (empty_yes names w used r _ n))
 
-pub ruleset open_turns = (open_none, open_other)
+pub ruleset open_turns = (open_none, open_other, set-get_or)
 
 -- ---- variables that take one term ----
 
@@ -401,8 +399,6 @@ fine_is_known k x d b h l u = (fine-name k x d b l u h).0
 pub fine_is_small : (k x d b : ℕ) → Fine k x d b → symbol_variable_kind ≤ k → k ≤ expression_variable_kind → x < name_limit
 fine_is_small k x d b h l u = (fine-name k x d b l u h).1
 
-pub ruleset record_asks = (left_in, fine_is_open, fine_is_close, fine_is_known, fine_is_small)
-
 module _ (names : List ℕ) (t : Item) (x : ℕ) where
   coded-open : t.kind ≡ 3 → coded names t x ≡ opening
   unfolding coded element renamed canon_e element_k
@@ -453,7 +449,18 @@ module _ (names : List ℕ) (t : Item) (x : ℕ) where
     unfolding turn
     turn_call l = rw (coded_call l) refl
 
-pub ruleset record_turns = (coded_is_open, coded_is_close, coded_is_symbol, coded_is_term, coded_is_many, turn_call)
+pub row_symbol : row symbol ≡ 0
+unfolding row
+row_symbol = refl
+
+pub row_term : row term ≡ 1
+unfolding row
+row_term = refl
+
+-- what a record asks, what it is, and the levels that it leaves
+pub ruleset record_asks = (left_in, fine_is_open, fine_is_close, fine_is_known, fine_is_small)
+
+pub ruleset record_turns = (record_asks, coded_is_open, coded_is_close, coded_is_symbol, coded_is_term, coded_is_many, row_symbol, row_term, turn_call, set-get_or)
 
 -- ---- a known e-variable that ends its level ----
 

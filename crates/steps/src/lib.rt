@@ -109,7 +109,7 @@ fn turn_literal(store: &Store, t: Item, s: State) -> Turned
 }
 
 // An Open: the first term is a bracket, whose contents become the innermost level.
-#[tactic(auto, using(crate::specs::StepLaws::open_turns, crate::specs::StepLaws::levels_left), unfolding(crate::specs::State::turn_of, crate::specs::State::Restores))]
+#[tactic(auto, using(crate::specs::StepLaws::open_turns), unfolding(crate::specs::State::turn_of, crate::specs::State::Restores))]
 fn turn_open(store: &Store, s: State, levels: &mut [u32]) -> Turned
     requires { Within store.now (left_of s) × (s.depth < nesting_limit) × LevelRoom levels.old }
     ensures turns { (last : Bool) (bd : List ℕ) → turn_of result levels.new bd ≡ turn_in store.now opening last (spec_place_of s levels.old bd) }
@@ -239,7 +239,7 @@ pub fn ends_apart(kind: usize, x: usize, last: bool, s: State, binds: &[u32]) ->
 
 // The turn of a record, x being the number of its name; `last` says whether its level ends after it. Of the levels it writes the place after
 // those around, and only where it goes on; of the entries the next one.
-#[tactic(auto, using(crate::specs::StepLaws::record_turns, crate::specs::StepLaws::record_asks, crate::specs::StepLaws::levels_left), unfolding(crate::specs::State::turn_of, crate::specs::State::Restores, term_spec::specs::Value::row))]
+#[tactic(auto, using(crate::specs::StepLaws::record_turns), unfolding(crate::specs::State::turn_of, crate::specs::State::Restores))]
 pub fn turn(
     store: &Store,
     t: Item,

@@ -1,7 +1,7 @@
 -- `steps::turn_open`: the run written is one level more.
 use Rattle.std.proofs.Common.{refl, ap, ap₂, rules, arith, ◌∙◌, ◌∷◌, ◌+◌, ◌-◌}
 use Rattle.steps.specs.State.{stack_of}
-use Rattle.steps.specs.StepLaws.{went_next, levels-same, wrote_next, open_bracket}
+use Rattle.steps.specs.StepLaws.{went_next, wrote_next, open_bracket}
 use Rattle.steps.specs.ArrayLaws.{run_written, stack_more}
 use Rattle.steps.proofs.turn_open.Goals as goal
 
