@@ -43,6 +43,9 @@ pub stopped : (m : Turned) (lv bd : List ℕ) → m ≡ Stop → turn_of m lv bd
 unfolding turn_of
 stopped m lv bd e = rw e refl
 
+pub stop_is : (lv bd : List ℕ) → turn_of Stop lv bd ≡ stop
+stop_is lv bd = stopped Stop lv bd refl
+
 -- A turn over words is the turn at the place that they and the state make.
 pub went_as : (s : State) (lv bd : List ℕ) → turn_of (Next s) lv bd ≡ turn_as (Next s) (spec_place_of s lv bd)
 unfolding turn_of turn_as
@@ -178,7 +181,10 @@ module _ (names w : List ℕ) (used : ℕ) (t : Item) (x : ℕ) (last : Bool) (r
     literal_equals e =
         rw (coded_literal names t x h) (sym (first_some names w used r st _ u at inside some ∙ if_yes _ _ (sym (literal_value names _ u _ h) ∙ sym q ∙ e)))
 
-pub ruleset literal_turns = (literal_none, literal_differs, literal_same)
+    pub literal_passes : b ≡ true → turn_in names w used (coded names t x) last (r ∷ st) env ≡ next (back_of 1 r ∷ st) env
+    literal_passes e = sym (literal_equals e)
+
+pub ruleset literal_turns = (stop_is, passed_next, literal_none, literal_differs, literal_passes, literal_same)
 
 -- ---- brackets ----
 

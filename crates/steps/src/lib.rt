@@ -91,7 +91,7 @@ pub fn entry(binds: &[u32], x: usize) -> Run
 }
 
 // A literal: the first term equals it.
-#[tactic(auto, using(crate::specs::StepLaws::literal_turns), unfolding(crate::specs::State::turn_of))]
+#[tactic(auto, using(crate::specs::StepLaws::literal_turns))]
 fn turn_literal(store: &Store, t: Item, s: State) -> Turned
     requires inside { Within store.now (left_of s) }
     requires rule { T (item_rule_k t.kind store.now.names.now (as_item t)) × (t.kind < open_kind) }
