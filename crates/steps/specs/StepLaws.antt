@@ -29,7 +29,7 @@ use Rattle.steps.specs.declared.Turned.TheVariants.{Stop, Next, Split}
 use Rattle.steps.specs.Turn.{Turn, stop, next, split, called, turn_if, turn_enter, turn_leave, turn_bind, turn_spread, turn_top, turn}
 use Rattle.steps.specs.State.{cells_in, back_of, stack_of, spec_place_of, levels_of, entries_of, entries_in, turn_as, turn_of, Known, Place, Stands, LevelsKept}
 use Rattle.steps.specs.State.{EndsApart, renamed, coded, coded_all, Fine}
-use Rattle.steps.specs.ArrayLaws.{restores-same, restores-two}
+use Rattle.steps.specs.ArrayLaws.{restores-same, restores-two, entries_less}
 use Rattle.steps.specs.CellLaws.{if_yes, if_no, literal_value, enter_no, enter_yes, takes_record, cells_size, first_none, first_some, empty_yes, empty_no}
 use Rattle.steps.specs.CellLaws.{begins_yes, begins_no, begins_long, run_begins, run_differs}
 
@@ -102,6 +102,12 @@ pub entry_in : (used n : ℕ) (w : List ℕ) (x : ℕ) {a b : ℕ} → Known use
     → record { start = a; len = b } ≡ get_or (entries_in n w) x no_run → a + b ≤ used
 entry_in used n w x h lt e =
     subst (λ (z : Run). Inside used z) (sym e) (all_get_d (entries_in n w) used x h.entries_in_lem (rw decode-length lt))
+
+pub known_in : (used n : ℕ) (w : List ℕ) (x : ℕ) → All (Inside used) (entries_in n w) → x < n
+    → (get_or (entries_in n w) x no_run).start + (get_or (entries_in n w) x no_run).len ≤ used
+known_in used n w x h lt = all_get_d (entries_in n w) used x h (rw decode-length lt)
+
+pub ruleset entry_turns = (stop_is, passed_next, gave_next, known_in, entries_less, decode-length)
 
 -- ---- the place ----
 
@@ -317,7 +323,19 @@ module _ (names w : List ℕ) (used : ℕ) (t : Item) (x : ℕ) (last : Bool) (r
             let (j, p, q) = coded_single names t x low high in
             rw q (one_equals names w used j x last r st env u at inside some p takes e v known entry same d)
 
-pub ruleset single_turns = (one_none, one_refused, one_differs)
+-- the same with the turn first
+module _ (names w : List ℕ) (used : ℕ) (j : Single) (x : ℕ) (last : Bool) (r : Run) (st env : List Run) (u : Term) (at : u ≡ record_at term_layout w r.start)
+    (inside : r.start + r.len ≤ used) (some : r.len ≡ 0 → ⊥) {k : ℕ} (is : row j ≡ k) {b : Bool} (takes : b ≡ takes_term k u) (e : b ≡ true) where
+  pub one_gives : length env ≤ x
+      → turn_in names w used (one j x) last (r ∷ st) env
+      ≡ next (back_of 1 r ∷ st) (env ++ (record { start = r.start; len = 1 } ∷ []))
+  one_gives n = sym (one_new names w used j x last r st env u at inside some is takes e n)
+
+  pub one_passes : (v : Run) → x < length env → v ≡ get_or env x no_run → {c : Bool} → c ≡ spec_equal_runs names w used v.start v.len r.start 1 → c ≡ true
+      → turn_in names w used (one j x) last (r ∷ st) env ≡ next (back_of 1 r ∷ st) env
+  one_passes v known entry same d = sym (one_equals names w used j x last r st env u at inside some is takes e v known entry same d)
+
+pub ruleset single_turns = (entry_turns, one_none, one_refused, one_differs, one_gives, one_passes)
 
 -- ---- e-variables ----
 
@@ -370,6 +388,25 @@ module _ (names w : List ℕ) (used x : ℕ) (r : Run) (st env : List Run) (insi
 
       pub many_equals : c ≡ true → next (back_of v.len r ∷ st) env ≡ turn_in names w used (many x) last (r ∷ st) env
       many_equals d = sym (many_known ∙ begins_yes _ _ _ (run_begins names w used v r within inside fits same d))
+
+-- the same with the turn first
+module _ (names w : List ℕ) (used x : ℕ) (last : Bool) (r : Run) (st env : List Run) (inside : r.start + r.len ≤ used) where
+  pub many_gives : last ≡ true → length env ≤ x → turn_in names w used (many x) last (r ∷ st) env ≡ next (back_of r.len r ∷ st) (env ++ (r ∷ []))
+  many_gives e n = sym (many_last names w used x r st env inside e n)
+
+  pub many_splits : last ≡ false → length env ≤ x → turn_in names w used (many x) last (r ∷ st) env ≡ split r st env
+  many_splits e n = sym (many_split names w used x r st env inside e n)
+
+  pub many_passes : (v : Run) → x < length env → v ≡ get_or env x no_run → v.start + v.len ≤ used → v.len ≤ r.len
+      → {c : Bool} → c ≡ spec_equal_runs names w used v.start v.len r.start v.len → c ≡ true
+      → turn_in names w used (many x) last (r ∷ st) env ≡ next (back_of v.len r ∷ st) env
+  many_passes v known entry within fits same d = sym (many_equals names w used x r st env inside last v known entry within fits same d)
+
+pub split_is : (s : State) (lv bd : List ℕ) → turn_of (Split s) lv bd ≡ split (record { start = s.start; len = s.len }) (stack_of s.depth lv) (entries_in s.bound bd)
+unfolding turn_of
+split_is s lv bd = refl
+
+pub ruleset expression_turns = (entry_turns, split_is, many_long, many_differs, many_gives, many_splits, many_passes)
 
 -- ---- the record ----
 

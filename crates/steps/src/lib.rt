@@ -156,7 +156,7 @@ fn turn_close(s: State, levels: &[u32]) -> Turned
 }
 
 // An s- or t-variable: it takes the first term; a known one must be equal to it.
-#[tactic(auto, using(crate::specs::StepLaws::single_turns), unfolding(crate::specs::State::turn_of))]
+#[tactic(auto, using(crate::specs::StepLaws::single_turns))]
 fn turn_single(
     store: &Store,
     kind: VariableKind,
@@ -193,6 +193,7 @@ fn turn_single(
 }
 
 // An e-variable: a known one must equal the terms ahead; one that ends its level takes what remains; an open one is split.
+#[tactic(auto, using(crate::specs::StepLaws::expression_turns))]
 fn turn_expression(
     store: &Store,
     x: usize,
