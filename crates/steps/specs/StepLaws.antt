@@ -10,9 +10,9 @@ use native.Mathlib.Omega.{arith}
 use Rattle.std.proofs.Math.Decide.{dec_lt}
 use Rattle.term_spec.proofs.ListLaws.{All}
 use Rattle.term_spec.specs.Text.{text_at}
-use Rattle.term_spec.specs.Words.{decode, record_at, records, count}
+use Rattle.term_spec.specs.Words.{Lies, decode, record_at, records, count, write}
 use Rattle.term_spec.proofs.WordsLaws.{decode-at, decode-length}
-use Rattle.term_spec.specs.Term.{Term, Run, no_run, term_layout, no_term, contents_run, term_rule_k}
+use Rattle.term_spec.specs.Term.{Term, Run, no_run, term_layout, run_layout, no_term, contents_run, term_rule_k}
 use Rattle.term_spec.specs.Value.{Single, symbol, term, row, value_k, value_of, canon, sames?, takes?, is_yes}
 use Rattle.match_spec.specs.Element.{Element, lit, opening, closing, call, one, many, canon_e}
 use Rattle.match_spec.specs.Pattern.{Item, no_item, item_layout, element, element_k, item_rule_k}
@@ -29,7 +29,7 @@ use Rattle.steps.specs.declared.Turned.TheVariants.{Stop, Next, Split}
 use Rattle.steps.specs.Turn.{Turn, stop, next, split, called, turn_if, turn_enter, turn_leave, turn_bind, turn_spread, turn_top, turn}
 use Rattle.steps.specs.State.{cells_in, back_of, stack_of, spec_place_of, levels_of, entries_of, entries_in, turn_as, turn_of, Known, Place, Stands, LevelsKept}
 use Rattle.steps.specs.State.{EndsApart, renamed, coded, coded_all, Fine}
-use Rattle.steps.specs.ArrayLaws.{restores-same, restores-two, entries_less}
+use Rattle.steps.specs.ArrayLaws.{run_written, stack_more, stack_less_run, restores-same, restores-two, entries_less}
 use Rattle.steps.specs.CellLaws.{if_yes, if_no, literal_value, enter_no, enter_yes, takes_record, cells_size, first_none, first_some, empty_yes, empty_no}
 use Rattle.steps.specs.CellLaws.{begins_yes, begins_no, begins_long, run_begins, run_differs}
 
@@ -221,7 +221,33 @@ module _ (names w : List ℕ) (used : ℕ) (last : Bool) (r : Run) (st env : Lis
     unfolding turn turn_leave
     close_ended n = rw e (sym (empty_yes names w used r _ n))
 
-pub ruleset open_turns = (open_none, open_other, set-get_or)
+-- the same with the turn first, over the words of the levels
+pub next_is : (s : State) (lv bd : List ℕ)
+    → turn_of (Next s) lv bd ≡ next (record { start = s.start; len = s.len } ∷ stack_of s.depth lv) (entries_in s.bound bd)
+unfolding turn_of
+next_is s lv bd = refl
+
+module _ (names w : List ℕ) (used : ℕ) (last : Bool) (r : Run) (d : ℕ) (lv : List ℕ) (env : List Run) where
+  pub open_enters : (u : Term) → u ≡ record_at term_layout w r.start → r.start + r.len ≤ used → (r.len ≡ 0 → ⊥) → u.kind ≡ 3
+      → turn_in names w used opening last (r ∷ stack_of d lv) env ≡ next (record { start = u.a; len = u.b } ∷ (back_of 1 r ∷ stack_of d lv)) env
+  open_enters u at inside some e = sym (open_bracket names w used last r (stack_of d lv) env u at inside some e)
+
+  pub close_stops : 1 ≤ d → r.start + r.len ≤ used → (r.len ≡ 0 → ⊥) → turn_in names w used closing last (r ∷ stack_of d lv) env ≡ stop
+  close_stops h inside n = sym (close_left names w used last r (stack_of d lv) env _ _ (stack_less_run lv d h refl) inside n)
+
+  pub close_leaves : 1 ≤ d → r.len ≡ 0
+      → turn_in names w used closing last (r ∷ stack_of d lv) env ≡ next (record_at run_layout lv (d - 1) ∷ stack_of (d - 1) lv) env
+  close_leaves h n = sym (close_ended names w used last r (stack_of d lv) env _ _ (stack_less_run lv d h refl) n)
+
+pub stack_written : (w after : List ℕ) (d : ℕ) (r : Run) → Lies run_layout w (d + 1) → after ≡ write run_layout w d (r ∷ []) → stack_of (d + 1) after ≡ r ∷ stack_of d w
+stack_written w after d r h e = ap (stack_of (d + 1)) (e ∙ run_written w d r h) ∙ stack_more w d r.start r.len (omega (arith, h))
+
+pub level_written : (w after : List ℕ) (d : ℕ) (r : Run) (s : State) → Lies run_layout w (d + 1) → after ≡ write run_layout w d (r ∷ [])
+    → LevelsKept d (Next s) w after
+level_written w after d r s h e = wrote_next d s w after r.start r.len (e ∙ run_written w d r h)
+
+pub ruleset open_turns = (stop_is, next_is, open_none, open_other, open_enters, stack_written, set-get_or)
+pub ruleset close_turns = (stop_is, next_is, close_stops, close_leaves)
 
 -- ---- variables that take one term ----
 

@@ -109,7 +109,7 @@ fn turn_literal(store: &Store, t: Item, s: State) -> Turned
 }
 
 // An Open: the first term is a bracket, whose contents become the innermost level.
-#[tactic(auto, using(crate::specs::StepLaws::open_turns), unfolding(crate::specs::State::turn_of, crate::specs::State::Restores))]
+#[tactic(auto, using(crate::specs::StepLaws::open_turns), unfolding(crate::specs::State::Restores))]
 fn turn_open(store: &Store, s: State, levels: &mut [u32]) -> Turned
     requires { Within store.now (left_of s) × (s.depth < nesting_limit) × LevelRoom levels.old }
     ensures turns { (last : Bool) (bd : List ℕ) → turn_of result levels.new bd ≡ turn_in store.now opening last (spec_place_of s levels.old bd) }
@@ -137,6 +137,7 @@ fn turn_open(store: &Store, s: State, levels: &mut [u32]) -> Turned
 }
 
 // A Close: the innermost level has ended.
+#[tactic(auto, using(crate::specs::StepLaws::close_turns))]
 fn turn_close(s: State, levels: &[u32]) -> Turned
     requires { (1 ≤ s.depth) × (s.depth ≤ nesting_limit) × LevelRoom levels.now }
     ensures { let lv = levels.now in
