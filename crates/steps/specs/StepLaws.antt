@@ -11,7 +11,7 @@ use Rattle.std.proofs.Math.Decide.{dec_lt}
 use Rattle.term_spec.proofs.ListLaws.{All}
 use Rattle.term_spec.specs.Text.{text_at}
 use Rattle.term_spec.specs.Words.{Lies, decode, record_at, records, count, write}
-use Rattle.term_spec.proofs.WordsLaws.{decode-at, decode-length}
+use Rattle.term_spec.proofs.WordsLaws.{decode-at, decode-length, decode-write, run_lays}
 use Rattle.term_spec.specs.Term.{Term, Run, no_run, term_layout, run_layout, no_term, contents_run, term_rule_k}
 use Rattle.term_spec.specs.Value.{Single, symbol, term, row, value_k, value_of, canon, sames?, takes?, is_yes}
 use Rattle.match_spec.specs.Element.{Element, lit, opening, closing, call, one, many, canon_e}
@@ -107,6 +107,11 @@ pub known_in : (used n : ℕ) (w : List ℕ) (x : ℕ) → All (Inside used) (en
     → (get_or (entries_in n w) x no_run).start + (get_or (entries_in n w) x no_run).len ≤ used
 known_in used n w x h lt = all_get_d (entries_in n w) used x h (rw decode-length lt)
 
+pub entry_written : (w after : List ℕ) (n : ℕ) (r : Run) → Lies run_layout w n → after ≡ write run_layout w n (r ∷ [])
+    → entries_in (n + 1) after ≡ entries_in n w ++ (r ∷ [])
+entry_written w after n r h e = ap (entries_in (n + 1)) e ∙ decode-write run_layout run_lays w n (r ∷ []) h
+
+pub ruleset entry_words = (decode-at, entry_written)
 pub ruleset entry_turns = (stop_is, passed_next, gave_next, known_in, entries_less, decode-length)
 
 -- ---- the place ----

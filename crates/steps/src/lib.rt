@@ -65,6 +65,7 @@ pub fn pass(s: State, k: usize) -> State
 }
 
 // The next entry gets the first k terms of the innermost level, which are passed.
+#[tactic(auto, using(crate::specs::StepLaws::entry_words))]
 pub fn give(s: State, k: usize, binds: &mut [u32]) -> State
     requires { (k ≤ s.len) × (s.start + s.len ≤ limit) × (s.bound < name_limit) × EntryRoom binds.old }
     ensures { let before = entries_in s.bound binds.old in
@@ -83,6 +84,7 @@ pub fn give(s: State, k: usize, binds: &mut [u32]) -> State
 }
 
 // The run that entry x was given.
+#[tactic(auto, using(crate::specs::StepLaws::entry_words))]
 pub fn entry(binds: &[u32], x: usize) -> Run
     requires { Lies run_layout binds.now (x + 1) }
     ensures { (n : ℕ) → x < n → as_run result ≡ get_or (entries_in n binds.now) x no_run }
