@@ -19,7 +19,7 @@ use Rattle.match_spec.specs.Pattern.{Item, no_item, item_layout, element, elemen
 use Rattle.match_spec.specs.Pattern.{open_kind, close_kind, symbol_variable_kind, term_variable_kind, expression_variable_kind, nesting_limit, name_limit}
 use Rattle.match_spec.specs.Walk.{Reading, cells_of, runs, strip, ends}
 use Rattle.match_spec.proofs.RunLaws.{Inside}
-use Rattle.value.specs.Equal.{Texts, TermStore, spec_equal_symbols, spec_equal_runs, values_in}
+use Rattle.value.specs.Equal.{InNames, Texts, TermStore, spec_equal_symbols, spec_equal_runs, values_in}
 use Rattle.value.specs.EqualLaws.{in_names, texts_at}
 use Rattle.kinds.specs.Kinds.{takes_term}
 use Rattle.items.specs.Records.{term_of_item}
@@ -112,6 +112,7 @@ pub entry_written : (w after : List ℕ) (n : ℕ) (r : Run) → Lies run_layout
 entry_written w after n r h e = ap (entries_in (n + 1)) e ∙ decode-write run_layout run_lays w n (r ∷ []) h
 
 pub ruleset entry_words = (decode-at, entry_written)
+
 pub ruleset entry_turns = (stop_is, passed_next, gave_next, known_in, entries_less, decode-length)
 
 -- ---- the place ----
@@ -158,6 +159,13 @@ literal_texts names w used i t l u store lt f e h r = rw f (
   h,
 )
 
+-- one text by one
+pub literal_named : (names : List ℕ) (l : Term) (t : Item) → l ≡ term_of_item t → t.kind < 3 → T (item_rule_k t.kind names t) → InNames l.kind names l
+literal_named names l t f h r = rw f (in_names t.kind names [] (term_of_item t) (literal_in t.kind names t h r))
+
+pub symbol_named : (names : List ℕ) (u : Term) (w : List ℕ) (used i : ℕ) → u ≡ record_at term_layout w i → i < used → TermStore names w used → InNames u.kind names u
+symbol_named names u w used i e lt store = (texts_at names w used store i i u u lt lt e e).right
+
 -- What is answered of the term l is answered of the literal.
 pub literal_same : (names : List ℕ) (t : Item) (l u : Term) {b : Bool} → b ≡ spec_equal_symbols names l u → l ≡ term_of_item t
     → b ≡ spec_equal_symbols names (term_of_item t) u
@@ -195,7 +203,7 @@ module _ (names w : List ℕ) (used : ℕ) (t : Item) (x : ℕ) (last : Bool) (r
     pub literal_passes : b ≡ true → turn_in names w used (coded names t x) last (r ∷ st) env ≡ next (back_of 1 r ∷ st) env
     literal_passes e = sym (literal_equals e)
 
-pub ruleset literal_turns = (stop_is, passed_next, literal_none, literal_differs, literal_passes, literal_same)
+pub ruleset literal_turns = (literal_named, symbol_named, stop_is, passed_next, literal_none, literal_differs, literal_passes, literal_same)
 
 -- ---- brackets ----
 
@@ -252,6 +260,7 @@ pub level_written : (w after : List ℕ) (d : ℕ) (r : Run) (s : State) → Lie
 level_written w after d r s h e = wrote_next d s w after r.start r.len (e ∙ run_written w d r h)
 
 pub ruleset open_turns = (stop_is, next_is, open_none, open_other, open_enters, stack_written, set-get_or)
+
 pub ruleset close_turns = (stop_is, next_is, close_stops, close_leaves)
 
 -- ---- variables that take one term ----
