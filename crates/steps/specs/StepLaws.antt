@@ -2,22 +2,24 @@
 use Rattle.std.specs.Prelude.{◌≡◌, List, [], ◌∷◌, ◌++◌, Bool, true, false, T, eqb, set, drop}
 use Rattle.std.proofs.Math.Path.{refl, ap, sym}
 use Rattle.std.proofs.Common.{ap₂, subst, ◌∙◌, eq-eqb, ne_eqb}
-use Rattle.std.proofs.Math.ListN.{length, get_or, drop_of_length-le}
+use Rattle.std.proofs.Math.ListN.{length, get_or, drop_of_length-le, take}
 use Rattle.std.proofs.Math.Seq.{drop-cons}
+use Rattle.std.proofs.lemmas.List.{set-get_or}
 use Prim.Native.Nat.{ℕ, suc, zero, ◌+◌, ◌-◌, ◌*◌, ◌/◌, ◌<◌, ◌≤◌}
 use native.Mathlib.Omega.{arith}
 use Rattle.std.proofs.Math.Decide.{dec_lt}
 use Rattle.term_spec.proofs.ListLaws.{All}
 use Rattle.term_spec.specs.Text.{text_at}
-use Rattle.term_spec.specs.Words.{decode, record_at, records, count}
-use Rattle.term_spec.proofs.WordsLaws.{decode-at, decode-length}
-use Rattle.term_spec.specs.Term.{Term, Run, no_run, term_layout, no_term, contents_run, term_rule_k}
-use Rattle.term_spec.specs.Value.{Single, symbol, term, row, value_k, value_of, canon, sames?}
+use Rattle.term_spec.specs.Words.{Lies, decode, record_at, records, count, write}
+use Rattle.term_spec.proofs.WordsLaws.{decode-at, decode-length, decode-write, run_lays}
+use Rattle.term_spec.specs.Term.{Term, Run, no_run, term_layout, run_layout, no_term, contents_run, term_rule_k}
+use Rattle.term_spec.specs.Value.{Single, symbol, term, row, value_k, value_of, canon, sames?, takes?, is_yes}
 use Rattle.match_spec.specs.Element.{Element, lit, opening, closing, call, one, many, canon_e}
 use Rattle.match_spec.specs.Pattern.{Item, no_item, item_layout, element, element_k, item_rule_k}
+use Rattle.match_spec.specs.Pattern.{open_kind, close_kind, symbol_variable_kind, term_variable_kind, expression_variable_kind, nesting_limit, name_limit}
 use Rattle.match_spec.specs.Walk.{Reading, cells_of, runs, strip, ends}
 use Rattle.match_spec.proofs.RunLaws.{Inside}
-use Rattle.value.specs.Equal.{Texts, TermStore, spec_equal_symbols, spec_equal_runs}
+use Rattle.value.specs.Equal.{InNames, Texts, TermStore, spec_equal_symbols, spec_equal_runs, values_in}
 use Rattle.value.specs.EqualLaws.{in_names, texts_at}
 use Rattle.kinds.specs.Kinds.{takes_term}
 use Rattle.items.specs.Records.{term_of_item}
@@ -27,7 +29,7 @@ use Rattle.steps.specs.declared.Turned.TheVariants.{Stop, Next, Split}
 use Rattle.steps.specs.Turn.{Turn, stop, next, split, called, turn_if, turn_enter, turn_leave, turn_bind, turn_spread, turn_top, turn}
 use Rattle.steps.specs.State.{cells_in, back_of, stack_of, spec_place_of, levels_of, entries_of, entries_in, turn_as, turn_of, Known, Place, Stands, LevelsKept}
 use Rattle.steps.specs.State.{EndsApart, renamed, coded, coded_all, Fine}
-use Rattle.steps.specs.ArrayLaws.{restores-same, restores-two}
+use Rattle.steps.specs.ArrayLaws.{run_written, stack_more, stack_less_run, restores-same, restores-two, entries_less}
 use Rattle.steps.specs.CellLaws.{if_yes, if_no, literal_value, enter_no, enter_yes, takes_record, cells_size, first_none, first_some, empty_yes, empty_no}
 use Rattle.steps.specs.CellLaws.{begins_yes, begins_no, begins_long, run_begins, run_differs}
 
@@ -40,6 +42,9 @@ turn_in names w used = turn (runs names (decode term_layout used w))
 pub stopped : (m : Turned) (lv bd : List ℕ) → m ≡ Stop → turn_of m lv bd ≡ stop
 unfolding turn_of
 stopped m lv bd e = rw e refl
+
+pub stop_is : (lv bd : List ℕ) → turn_of Stop lv bd ≡ stop
+stop_is lv bd = stopped Stop lv bd refl
 
 -- A turn over words is the turn at the place that they and the state make.
 pub went_as : (s : State) (lv bd : List ℕ) → turn_of (Next s) lv bd ≡ turn_as (Next s) (spec_place_of s lv bd)
@@ -98,11 +103,27 @@ pub entry_in : (used n : ℕ) (w : List ℕ) (x : ℕ) {a b : ℕ} → Known use
 entry_in used n w x h lt e =
     subst (λ (z : Run). Inside used z) (sym e) (all_get_d (entries_in n w) used x h.entries_in_lem (rw decode-length lt))
 
+pub known_in : (used n : ℕ) (w : List ℕ) (x : ℕ) → All (Inside used) (entries_in n w) → x < n
+    → (get_or (entries_in n w) x no_run).start + (get_or (entries_in n w) x no_run).len ≤ used
+known_in used n w x h lt = all_get_d (entries_in n w) used x h (rw decode-length lt)
+
+pub entry_written : (w after : List ℕ) (n : ℕ) (r : Run) → Lies run_layout w n → after ≡ write run_layout w n (r ∷ [])
+    → entries_in (n + 1) after ≡ entries_in n w ++ (r ∷ [])
+entry_written w after n r h e = ap (entries_in (n + 1)) e ∙ decode-write run_layout run_lays w n (r ∷ []) h
+
+pub ruleset entry_words = (decode-at, entry_written)
+
+pub ruleset entry_turns = (stop_is, passed_next, gave_next, known_in, entries_less, decode-length)
+
 -- ---- the place ----
 
 pub top_in : (used : ℕ) (s : Place) → Stands used s → s.start + s.len ≤ used
 unfolding All
 top_in used s h = h.levels_in.0
+
+pub left_in : (used a b : ℕ) (st : List Run) → All (Inside used) (record { start = a; len = b } ∷ st) → a + b ≤ used
+unfolding All
+left_in used a b st h = h.0
 
 -- ---- words of levels ----
 
@@ -138,6 +159,13 @@ literal_texts names w used i t l u store lt f e h r = rw f (
   h,
 )
 
+-- one text by one
+pub literal_named : (names : List ℕ) (l : Term) (t : Item) → l ≡ term_of_item t → t.kind < 3 → T (item_rule_k t.kind names t) → InNames l.kind names l
+literal_named names l t f h r = rw f (in_names t.kind names [] (term_of_item t) (literal_in t.kind names t h r))
+
+pub symbol_named : (names : List ℕ) (u : Term) (w : List ℕ) (used i : ℕ) → u ≡ record_at term_layout w i → i < used → TermStore names w used → InNames u.kind names u
+symbol_named names u w used i e lt store = (texts_at names w used store i i u u lt lt e e).right
+
 -- What is answered of the term l is answered of the literal.
 pub literal_same : (names : List ℕ) (t : Item) (l u : Term) {b : Bool} → b ≡ spec_equal_symbols names l u → l ≡ term_of_item t
     → b ≡ spec_equal_symbols names (term_of_item t) u
@@ -172,6 +200,11 @@ module _ (names w : List ℕ) (used : ℕ) (t : Item) (x : ℕ) (last : Bool) (r
     literal_equals e =
         rw (coded_literal names t x h) (sym (first_some names w used r st _ u at inside some ∙ if_yes _ _ (sym (literal_value names _ u _ h) ∙ sym q ∙ e)))
 
+    pub literal_passes : b ≡ true → turn_in names w used (coded names t x) last (r ∷ st) env ≡ next (back_of 1 r ∷ st) env
+    literal_passes e = sym (literal_equals e)
+
+pub ruleset literal_turns = (literal_named, symbol_named, stop_is, passed_next, literal_none, literal_differs, literal_passes, literal_same)
+
 -- ---- brackets ----
 
 module _ (names w : List ℕ) (used : ℕ) (last : Bool) (r : Run) (st env : List Run) where
@@ -200,6 +233,35 @@ module _ (names w : List ℕ) (used : ℕ) (last : Bool) (r : Run) (st env : Lis
     pub close_ended : r.len ≡ 0 → next (q ∷ more) env ≡ turn_in names w used closing last (r ∷ st) env
     unfolding turn turn_leave
     close_ended n = rw e (sym (empty_yes names w used r _ n))
+
+-- the same with the turn first, over the words of the levels
+pub next_is : (s : State) (lv bd : List ℕ)
+    → turn_of (Next s) lv bd ≡ next (record { start = s.start; len = s.len } ∷ stack_of s.depth lv) (entries_in s.bound bd)
+unfolding turn_of
+next_is s lv bd = refl
+
+module _ (names w : List ℕ) (used : ℕ) (last : Bool) (r : Run) (d : ℕ) (lv : List ℕ) (env : List Run) where
+  pub open_enters : (u : Term) → u ≡ record_at term_layout w r.start → r.start + r.len ≤ used → (r.len ≡ 0 → ⊥) → u.kind ≡ 3
+      → turn_in names w used opening last (r ∷ stack_of d lv) env ≡ next (record { start = u.a; len = u.b } ∷ (back_of 1 r ∷ stack_of d lv)) env
+  open_enters u at inside some e = sym (open_bracket names w used last r (stack_of d lv) env u at inside some e)
+
+  pub close_stops : 1 ≤ d → r.start + r.len ≤ used → (r.len ≡ 0 → ⊥) → turn_in names w used closing last (r ∷ stack_of d lv) env ≡ stop
+  close_stops h inside n = sym (close_left names w used last r (stack_of d lv) env _ _ (stack_less_run lv d h refl) inside n)
+
+  pub close_leaves : 1 ≤ d → r.len ≡ 0
+      → turn_in names w used closing last (r ∷ stack_of d lv) env ≡ next (record_at run_layout lv (d - 1) ∷ stack_of (d - 1) lv) env
+  close_leaves h n = sym (close_ended names w used last r (stack_of d lv) env _ _ (stack_less_run lv d h refl) n)
+
+pub stack_written : (w after : List ℕ) (d : ℕ) (r : Run) → Lies run_layout w (d + 1) → after ≡ write run_layout w d (r ∷ []) → stack_of (d + 1) after ≡ r ∷ stack_of d w
+stack_written w after d r h e = ap (stack_of (d + 1)) (e ∙ run_written w d r h) ∙ stack_more w d r.start r.len (omega (arith, h))
+
+pub level_written : (w after : List ℕ) (d : ℕ) (r : Run) (s : State) → Lies run_layout w (d + 1) → after ≡ write run_layout w d (r ∷ [])
+    → LevelsKept d (Next s) w after
+level_written w after d r s h e = wrote_next d s w after r.start r.len (e ∙ run_written w d r h)
+
+pub ruleset open_turns = (stop_is, next_is, open_none, open_other, open_enters, stack_written, set-get_or)
+
+pub ruleset close_turns = (stop_is, next_is, close_stops, close_leaves)
 
 -- ---- variables that take one term ----
 
@@ -230,46 +292,90 @@ unfolding turn_bind
 bind-new rd n x st env (yes k) h = absurd (omega arith)
 bind-new rd n x st env (no k) h = refl
 
+-- what it takes goes by the row of its kind
+module _ (names w : List ℕ) (used : ℕ) (j : Single) (x : ℕ) (last : Bool) (r : Run) (st env : List Run) where
+  pub one_none : r.len ≡ 0 → stop ≡ turn_in names w used (one j x) last (r ∷ st) env
+  unfolding turn
+  one_none e = sym (first_none names w used r st _ e)
+
+  module _ (u : Term) (at : u ≡ record_at term_layout w r.start) (inside : r.start + r.len ≤ used) (some : r.len ≡ 0 → ⊥) {k : ℕ} (is : row j ≡ k)
+      {b : Bool} (takes : b ≡ takes_term k u) where
+    one_takes : b ≡ is_yes (takes? j (canon (value_of names u (take r.start (values_in names w used)))))
+    one_takes = takes ∙ ap (λ z. takes_term z u) (sym is) ∙ sym (takes_record j names u _)
+
+    pub one_refused : b ≡ false → stop ≡ turn_in names w used (one j x) last (r ∷ st) env
+    unfolding turn
+    one_refused e = sym (first_some names w used r st _ u at inside some ∙ if_no _ _ (sym one_takes ∙ e))
+
+    module _ (e : b ≡ true) where
+      one_taken : turn_in names w used (one j x) last (r ∷ st) env
+          ≡ turn_bind (runs names (decode term_layout used w)) x (record { start = r.start; len = 1 }) (back_of 1 r ∷ st) env (dec_lt x (length env))
+      unfolding turn
+      one_taken = first_some names w used r st _ u at inside some ∙ if_yes _ _ (sym one_takes ∙ e)
+
+      pub one_new : length env ≤ x
+          → next (back_of 1 r ∷ st) (env ++ (record { start = r.start; len = 1 } ∷ []))
+          ≡ turn_in names w used (one j x) last (r ∷ st) env
+      one_new n = sym (one_taken ∙ bind-new _ x _ _ env _ n)
+
+      module _ (v : Run) (known : x < length env) (entry : v ≡ get_or env x no_run) {c : Bool}
+          (same : c ≡ spec_equal_runs names w used v.start v.len r.start 1) where
+        one_known : turn_in names w used (one j x) last (r ∷ st) env
+            ≡ turn_if (sames? (cells_in names w used v) (cells_in names w used (record { start = r.start; len = 1 })))
+            (next (back_of 1 r ∷ st) env)
+        one_known = one_taken ∙ bind_known _ x _ _ env _ known ∙ rw (← entry) refl
+
+        pub one_differs : c ≡ false → stop ≡ turn_in names w used (one j x) last (r ∷ st) env
+        unfolding spec_equal_runs cells_of
+        one_differs d = sym (one_known ∙ if_no _ _ (sym same ∙ d))
+
+        pub one_equals : c ≡ true → next (back_of 1 r ∷ st) env ≡ turn_in names w used (one j x) last (r ∷ st) env
+        unfolding spec_equal_runs cells_of
+        one_equals d = sym (one_known ∙ if_yes _ _ (sym same ∙ d))
+
+-- so does a record of such a kind
 module _ (names w : List ℕ) (used : ℕ) (t : Item) (x : ℕ) (last : Bool) (r : Run) (st env : List Run) (low : 5 ≤ t.kind) (high : t.kind ≤ 6) where
   pub single_none : r.len ≡ 0 → stop ≡ turn_in names w used (coded names t x) last (r ∷ st) env
-  unfolding turn
-  single_none e = let (j, p, q) = coded_single names t x low high in rw q (sym (first_none names w used r st _ e))
+  single_none e = let (j, p, q) = coded_single names t x low high in rw q (one_none names w used j x last r st env e)
 
   module _ (u : Term) (at : u ≡ record_at term_layout w r.start) (inside : r.start + r.len ≤ used) (some : r.len ≡ 0 → ⊥) {b : Bool}
       (takes : b ≡ takes_term (t.kind - 5) u) where
     pub single_refused : b ≡ false → stop ≡ turn_in names w used (coded names t x) last (r ∷ st) env
-    unfolding turn
     single_refused e =
         let (j, p, q) = coded_single names t x low high in
-        rw q (sym (first_some names w used r st _ u at inside some ∙ if_no _ _ (takes_record j names u _ ∙ ap (λ z. takes_term z u) p ∙ sym takes ∙ e)))
+        rw q (one_refused names w used j x last r st env u at inside some p takes e)
 
     module _ (e : b ≡ true) where
-      single_taken : turn_in names w used (coded names t x) last (r ∷ st) env
-          ≡ turn_bind (runs names (decode term_layout used w)) x (record { start = r.start; len = 1 }) (back_of 1 r ∷ st) env (dec_lt x (length env))
-      unfolding turn
-      single_taken =
-          let (j, p, q) = coded_single names t x low high in
-          rw q (first_some names w used r st _ u at inside some ∙ if_yes _ _ (takes_record j names u _ ∙ ap (λ z. takes_term z u) p ∙ sym takes ∙ e))
-
       pub single_new : length env ≤ x
           → next (back_of 1 r ∷ st) (env ++ (record { start = r.start; len = 1 } ∷ []))
           ≡ turn_in names w used (coded names t x) last (r ∷ st) env
-      single_new n = sym (single_taken ∙ bind-new _ x _ _ env _ n)
+      single_new n = let (j, p, q) = coded_single names t x low high in rw q (one_new names w used j x last r st env u at inside some p takes e n)
 
       module _ (v : Run) (known : x < length env) (entry : v ≡ get_or env x no_run) {c : Bool}
           (same : c ≡ spec_equal_runs names w used v.start v.len r.start 1) where
-        single_known : turn_in names w used (coded names t x) last (r ∷ st) env
-            ≡ turn_if (sames? (cells_in names w used v) (cells_in names w used (record { start = r.start; len = 1 })))
-            (next (back_of 1 r ∷ st) env)
-        single_known = single_taken ∙ bind_known _ x _ _ env _ known ∙ rw (← entry) refl
-
         pub single_differs : c ≡ false → stop ≡ turn_in names w used (coded names t x) last (r ∷ st) env
-        unfolding spec_equal_runs cells_of
-        single_differs d = sym (single_known ∙ if_no _ _ (sym same ∙ d))
+        single_differs d =
+            let (j, p, q) = coded_single names t x low high in
+            rw q (one_differs names w used j x last r st env u at inside some p takes e v known entry same d)
 
         pub single_equals : c ≡ true → next (back_of 1 r ∷ st) env ≡ turn_in names w used (coded names t x) last (r ∷ st) env
-        unfolding spec_equal_runs cells_of
-        single_equals d = sym (single_known ∙ if_yes _ _ (sym same ∙ d))
+        single_equals d =
+            let (j, p, q) = coded_single names t x low high in
+            rw q (one_equals names w used j x last r st env u at inside some p takes e v known entry same d)
+
+-- the same with the turn first
+module _ (names w : List ℕ) (used : ℕ) (j : Single) (x : ℕ) (last : Bool) (r : Run) (st env : List Run) (u : Term) (at : u ≡ record_at term_layout w r.start)
+    (inside : r.start + r.len ≤ used) (some : r.len ≡ 0 → ⊥) {k : ℕ} (is : row j ≡ k) {b : Bool} (takes : b ≡ takes_term k u) (e : b ≡ true) where
+  pub one_gives : length env ≤ x
+      → turn_in names w used (one j x) last (r ∷ st) env
+      ≡ next (back_of 1 r ∷ st) (env ++ (record { start = r.start; len = 1 } ∷ []))
+  one_gives n = sym (one_new names w used j x last r st env u at inside some is takes e n)
+
+  pub one_passes : (v : Run) → x < length env → v ≡ get_or env x no_run → {c : Bool} → c ≡ spec_equal_runs names w used v.start v.len r.start 1 → c ≡ true
+      → turn_in names w used (one j x) last (r ∷ st) env ≡ next (back_of 1 r ∷ st) env
+  one_passes v known entry same d = sym (one_equals names w used j x last r st env u at inside some is takes e v known entry same d)
+
+pub ruleset single_turns = (entry_turns, one_none, one_refused, one_differs, one_gives, one_passes)
 
 -- ---- e-variables ----
 
@@ -323,6 +429,25 @@ module _ (names w : List ℕ) (used x : ℕ) (r : Run) (st env : List Run) (insi
       pub many_equals : c ≡ true → next (back_of v.len r ∷ st) env ≡ turn_in names w used (many x) last (r ∷ st) env
       many_equals d = sym (many_known ∙ begins_yes _ _ _ (run_begins names w used v r within inside fits same d))
 
+-- the same with the turn first
+module _ (names w : List ℕ) (used x : ℕ) (last : Bool) (r : Run) (st env : List Run) (inside : r.start + r.len ≤ used) where
+  pub many_gives : last ≡ true → length env ≤ x → turn_in names w used (many x) last (r ∷ st) env ≡ next (back_of r.len r ∷ st) (env ++ (r ∷ []))
+  many_gives e n = sym (many_last names w used x r st env inside e n)
+
+  pub many_splits : last ≡ false → length env ≤ x → turn_in names w used (many x) last (r ∷ st) env ≡ split r st env
+  many_splits e n = sym (many_split names w used x r st env inside e n)
+
+  pub many_passes : (v : Run) → x < length env → v ≡ get_or env x no_run → v.start + v.len ≤ used → v.len ≤ r.len
+      → {c : Bool} → c ≡ spec_equal_runs names w used v.start v.len r.start v.len → c ≡ true
+      → turn_in names w used (many x) last (r ∷ st) env ≡ next (back_of v.len r ∷ st) env
+  many_passes v known entry within fits same d = sym (many_equals names w used x r st env inside last v known entry within fits same d)
+
+pub split_is : (s : State) (lv bd : List ℕ) → turn_of (Split s) lv bd ≡ split (record { start = s.start; len = s.len }) (stack_of s.depth lv) (entries_in s.bound bd)
+unfolding turn_of
+split_is s lv bd = refl
+
+pub ruleset expression_turns = (entry_turns, split_is, many_long, many_differs, many_gives, many_splits, many_passes)
+
 -- ---- the record ----
 
 -- What a record asks of the state, by its kind.
@@ -344,6 +469,19 @@ fine_kinds (suc (suc (suc j))) x d b l h = absurd (omega arith)
 pub fine-name : (k x d b : ℕ) → 5 ≤ k → k ≤ 7 → Fine k x d b → (x ≤ b) × (x < 64)
 fine-name k x d b l u h = let e : k ≡ suc (suc (suc (suc (suc (k - 5))))) = omega arith in fine_kinds (k - 5) x d b (omega arith) (rw e at h)
 
+-- each kind by its name, as a test by cases has it
+pub fine_is_open : (k x d b : ℕ) → Fine k x d b → open_kind ≡ k → d < nesting_limit
+fine_is_open k x d b h e = fine-open k x d b (sym e) h
+
+pub fine_is_close : (k x d b : ℕ) → Fine k x d b → close_kind ≡ k → 1 ≤ d
+fine_is_close k x d b h e = fine_close k x d b (sym e) h
+
+pub fine_is_known : (k x d b : ℕ) → Fine k x d b → symbol_variable_kind ≤ k → k ≤ expression_variable_kind → x ≤ b
+fine_is_known k x d b h l u = (fine-name k x d b l u h).0
+
+pub fine_is_small : (k x d b : ℕ) → Fine k x d b → symbol_variable_kind ≤ k → k ≤ expression_variable_kind → x < name_limit
+fine_is_small k x d b h l u = (fine-name k x d b l u h).1
+
 module _ (names : List ℕ) (t : Item) (x : ℕ) where
   coded-open : t.kind ≡ 3 → coded names t x ≡ opening
   unfolding coded element renamed canon_e element_k
@@ -361,6 +499,24 @@ module _ (names : List ℕ) (t : Item) (x : ℕ) where
   unfolding coded element renamed canon_e element_k
   coded_call l = let e : t.kind ≡ suc (suc (suc (suc (suc (suc (suc (suc (t.kind - 8)))))))) = omega arith in rw e refl
 
+  -- each kind by its name, as a test by cases has it
+  pub coded_is_open : open_kind ≡ t.kind → coded names t x ≡ opening
+  coded_is_open e = coded-open (sym e)
+
+  pub coded_is_close : close_kind ≡ t.kind → coded names t x ≡ closing
+  coded_is_close e = coded_close (sym e)
+
+  pub coded_is_symbol : symbol_variable_kind ≡ t.kind → coded names t x ≡ one symbol x
+  unfolding coded element renamed canon_e element_k
+  coded_is_symbol e = rw (sym e) refl
+
+  pub coded_is_term : term_variable_kind ≡ t.kind → coded names t x ≡ one term x
+  unfolding coded element renamed canon_e element_k
+  coded_is_term e = rw (sym e) refl
+
+  pub coded_is_many : expression_variable_kind ≡ t.kind → coded names t x ≡ many x
+  coded_is_many e = coded_many (sym e)
+
   -- so the record does what its element does
   module _ (w : List ℕ) (used : ℕ) (last : Bool) (ls env : List Run) where
     pub turn-open : t.kind ≡ 3 → turn_in names w used opening last ls env ≡ turn_in names w used (coded names t x) last ls env
@@ -375,6 +531,19 @@ module _ (names : List ℕ) (t : Item) (x : ℕ) where
     pub turn_call : 8 ≤ t.kind → called ≡ turn_in names w used (coded names t x) last ls env
     unfolding turn
     turn_call l = rw (coded_call l) refl
+
+pub row_symbol : row symbol ≡ 0
+unfolding row
+row_symbol = refl
+
+pub row_term : row term ≡ 1
+unfolding row
+row_term = refl
+
+-- what a record asks, what it is, and the levels that it leaves
+pub ruleset record_asks = (left_in, fine_is_open, fine_is_close, fine_is_known, fine_is_small)
+
+pub ruleset record_turns = (record_asks, coded_is_open, coded_is_close, coded_is_symbol, coded_is_term, coded_is_many, row_symbol, row_term, turn_call, set-get_or)
 
 -- ---- a known e-variable that ends its level ----
 
@@ -430,3 +599,8 @@ module _ (w : List ℕ) (p : ℕ) (names numbers : List ℕ) where
       let (ys, q) = coded-drop p names (decode item_layout (length w / 4) w) numbers in
       let d : p < length (decode item_layout (length w / 4) w) = rw decode-length h in
       rw (q, drop-cons (decode item_layout (length w / 4) w) p no_item d, decode-at item_layout (length w / 4) p w no_item h, ← e) (sym (ends-first names t _ ys))
+
+  pub ends_at_record : p < length w / 4 → ends (drop p (coded_all names (records item_layout w) numbers)) ≡ eqb (record_at item_layout w p).kind close_kind
+  ends_at_record h = sym (ends_record h _ refl)
+
+pub ruleset level_ends = (ends_past, ends_at_record)

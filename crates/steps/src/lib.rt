@@ -5,20 +5,24 @@
 ghost use Rattle.std.specs.Prelude.{◌≡◌, List, [], ◌∷◌, ◌++◌, Bool, true, ℕ, ◌+◌, ◌<◌, ◌≤◌, T, get_or, drop};
 ghost use Rattle.term_spec.specs.Words.{Lies};
 ghost use Rattle.term_spec.specs.Term.{limit, run_layout, no_run};
-ghost use Rattle.match_spec.specs.Pattern.{item_rule_k, nesting_limit, name_limit, open_kind, symbol_variable_kind, term_variable_kind};
+ghost use Rattle.term_spec.specs.Value.{Single, row};
+ghost use Rattle.match_spec.specs.Pattern.{item_rule_k, nesting_limit, name_limit, open_kind};
 ghost use Rattle.match_spec.specs.Walk.{ends};
-ghost use Rattle.value.specs.Equal.{TermStore};
-ghost use Rattle.equality.specs.Memory.{Memory};
+ghost use Rattle.value.specs.Store.{Within};
+ghost use Rattle.kinds.specs.Variables.{row_of};
 ghost use Rattle.equality.specs.Stores.{Remembers};
 ghost use Rattle.steps.specs.Stores.{turn_in};
 ghost use Rattle.items.specs.Records.{as_item};
 ghost use Rattle.words.specs.Records.{as_run};
-ghost use Rattle.match_spec.specs.Element.{opening, closing, many};
+ghost use Rattle.match_spec.specs.Element.{opening, closing, one, many};
 ghost use Rattle.steps.specs.State.{passing, giving, left_of, front_of, spec_place_of, entries_in, turn_of, turn_at, LevelRoom, EntryRoom};
-ghost use Rattle.steps.specs.State.{RunReady, InStore, InTerms, Known, Stands, LevelsKept, EndsApart, coded, pattern_in, Fine};
+ghost use Rattle.steps.specs.State.{Known, Stands, LevelsKept, EndsApart, coded, pattern_in, Fine};
 
 use items::Item;
+use items::kind::ItemKind;
+use kinds::VariableKind;
 use value::store::Store;
+use words::kind::TermKind;
 use words::{Run, Term};
 
 pub mod given;
@@ -61,6 +65,7 @@ pub fn pass(s: State, k: usize) -> State
 }
 
 // The next entry gets the first k terms of the innermost level, which are passed.
+#[tactic(auto, using(crate::specs::StepLaws::entry_words))]
 pub fn give(s: State, k: usize, binds: &mut [u32]) -> State
     requires { (k ≤ s.len) × (s.start + s.len ≤ limit) × (s.bound < name_limit) × EntryRoom binds.old }
     ensures { let before = entries_in s.bound binds.old in
@@ -79,6 +84,7 @@ pub fn give(s: State, k: usize, binds: &mut [u32]) -> State
 }
 
 // The run that entry x was given.
+#[tactic(auto, using(crate::specs::StepLaws::entry_words))]
 pub fn entry(binds: &[u32], x: usize) -> Run
     requires { Lies run_layout binds.now (x + 1) }
     ensures { (n : ℕ) → x < n → as_run result ≡ get_or (entries_in n binds.now) x no_run }
@@ -87,39 +93,35 @@ pub fn entry(binds: &[u32], x: usize) -> Run
 }
 
 // A literal: the first term equals it.
-fn turn_literal(names: &[u8], terms: &[u32], t: Item, s: State) -> Turned
-    requires store { InStore names.now terms.now (left_of s) }
-    requires rule { T (item_rule_k t.kind names.now (as_item t)) × (t.kind < open_kind) }
-    ensures { let element = coded names.now (as_item t) in
-        let due = turn_at names.now terms.now in
-        ((used x : ℕ) (last : Bool) (lv bd : List ℕ) → s.start + s.len ≤ used
-        → turn_of result lv bd ≡ due used (element x) last (spec_place_of s lv bd)) }
+#[tactic(auto, using(crate::specs::StepLaws::literal_turns))]
+fn turn_literal(store: &Store, t: Item, s: State) -> Turned
+    requires inside { Within store.now (left_of s) }
+    requires rule { T (item_rule_k t.kind store.now.names.now (as_item t)) × (t.kind < open_kind) }
+    ensures { let element = coded store.now.names.now (as_item t) in
+        ((x : ℕ) (last : Bool) (lv bd : List ℕ) → turn_of result lv bd ≡ turn_in store.now (element x) last (spec_place_of s lv bd)) }
 {
     if s.len == 0 {
         return Turned::Stop;
     }
-    let u = words::get::<Term>(terms, s.start);
-    if !value::symbol_matches(names, items::literal(t), u) {
+    let u = words::get::<Term>(store.terms, s.start);
+    if !value::symbol_matches(store.names, items::literal(t), u) {
         return Turned::Stop;
     }
     Turned::Next(pass(s, 1))
 }
 
 // An Open: the first term is a bracket, whose contents become the innermost level.
-fn turn_open(terms: &[u32], s: State, levels: &mut [u32]) -> Turned
-    requires { InTerms terms.now (left_of s) × (s.depth < nesting_limit) × LevelRoom levels.old }
-    ensures { let terms = terms.entry.now in
-        let before = levels.old in
-        let after = levels.new in
-        ((names : List ℕ) (used : ℕ) (last : Bool) (bd : List ℕ) → s.start + s.len ≤ used
-        → turn_of result after bd ≡ turn_at names terms used opening last (spec_place_of s before bd))
-        × LevelsKept s.depth result before after }
+#[tactic(auto, using(crate::specs::StepLaws::open_turns), unfolding(crate::specs::State::Restores))]
+fn turn_open(store: &Store, s: State, levels: &mut [u32]) -> Turned
+    requires { Within store.now (left_of s) × (s.depth < nesting_limit) × LevelRoom levels.old }
+    ensures turns { (last : Bool) (bd : List ℕ) → turn_of result levels.new bd ≡ turn_in store.now opening last (spec_place_of s levels.old bd) }
+    ensures levels { LevelsKept s.depth result levels.old levels.new }
 {
     if s.len == 0 {
         return Turned::Stop;
     }
-    let u = words::get::<Term>(terms, s.start);
-    if u.kind != words::BRACKET {
+    let u = words::get::<Term>(store.terms, s.start);
+    if !u.is(TermKind::Bracket) {
         return Turned::Stop;
     }
     let after = Run {
@@ -127,15 +129,17 @@ fn turn_open(terms: &[u32], s: State, levels: &mut [u32]) -> Turned
         len: s.len - 1,
     };
     words::put(levels, s.depth, after);
+    let inner = u.contents();
     Turned::Next(State {
-        start: u.a,
-        len: u.b,
+        start: inner.start,
+        len: inner.len,
         depth: s.depth + 1,
         ..s
     })
 }
 
 // A Close: the innermost level has ended.
+#[tactic(auto, using(crate::specs::StepLaws::close_turns))]
 fn turn_close(s: State, levels: &[u32]) -> Turned
     requires { (1 ≤ s.depth) × (s.depth ≤ nesting_limit) × LevelRoom levels.now }
     ensures { let lv = levels.now in
@@ -154,65 +158,59 @@ fn turn_close(s: State, levels: &[u32]) -> Turned
     })
 }
 
-// An s- or t-variable (row 0 or 1): it takes the first term; a known one must be equal to it.
+// An s- or t-variable: it takes the first term; a known one must be equal to it.
+#[tactic(auto, using(crate::specs::StepLaws::single_turns))]
 fn turn_single(
-    names: &[u8],
-    terms: &[u32],
-    used: usize,
-    t: Item,
+    store: &Store,
+    kind: VariableKind,
     x: usize,
     s: State,
     binds: &mut [u32],
     known: &mut [u16],
 ) -> Turned
-    requires ready { RunReady names.now terms.now used (left_of s) × Known used s.bound binds.old
-        × Memory names.now terms.now used known.old }
-    requires variable { (symbol_variable_kind ≤ t.kind) × (t.kind ≤ term_variable_kind) × (x ≤ s.bound) × (x < name_limit) }
-    ensures { let element = coded names.now (as_item t) x in
-        let due = turn_at names.now terms.now used element in
-        let before = binds.old in
-        let after = binds.new in
-        ((last : Bool) (lv : List ℕ) → turn_of result lv after ≡ due last (spec_place_of s lv before))
-        × (entries_in s.bound after ≡ entries_in s.bound before)
-        × Memory names.now terms.now used known.new }
+    requires inside { Within store.now (left_of s) }
+    requires entries { Known store.now.used s.bound binds.old × (x ≤ s.bound) × (x < name_limit) }
+    requires memory { Remembers store.now known.old }
+    ensures turns { (j : Single) → row j ≡ row_of kind → (last : Bool) (lv : List ℕ)
+        → turn_of result lv binds.new ≡ turn_in store.now (one j x) last (spec_place_of s lv binds.old) }
+    ensures entries { entries_in s.bound binds.new ≡ entries_in s.bound binds.old }
+    ensures memory { Remembers store.now known.new }
 {
     if s.len == 0 {
         return Turned::Stop;
     }
-    let u = words::get::<Term>(terms, s.start);
-    if !kinds::row_accepts(t.kind - items::S_VARIABLE, u) {
+    if !kinds::variable_accepts(kind, words::get::<Term>(store.terms, s.start)) {
         return Turned::Stop;
     }
     if s.bound <= x {
         return Turned::Next(give(s, 1, binds));
     }
-    let e = entry(binds, x);
-    if !equality::equal_runs_of(names, terms, used, e.start, e.len, s.start, 1, known) {
+    let ahead = Run {
+        start: s.start,
+        len: 1,
+    };
+    if !equality::equal_runs(store, entry(binds, x), ahead, known) {
         return Turned::Stop;
     }
     Turned::Next(pass(s, 1))
 }
 
 // An e-variable: a known one must equal the terms ahead; one that ends its level takes what remains; an open one is split.
+#[tactic(auto, using(crate::specs::StepLaws::expression_turns))]
 fn turn_expression(
-    names: &[u8],
-    terms: &[u32],
-    used: usize,
+    store: &Store,
     x: usize,
     last: bool,
     s: State,
     binds: &mut [u32],
     known: &mut [u16],
 ) -> Turned
-    requires ready { RunReady names.now terms.now used (left_of s) × Known used s.bound binds.old
-        × Memory names.now terms.now used known.old }
-    requires variable { (x ≤ s.bound) × (x < name_limit) }
-    ensures { let due = turn_at names.now terms.now used (many x) last in
-        let before = binds.old in
-        let after = binds.new in
-        ((lv : List ℕ) → turn_of result lv after ≡ due (spec_place_of s lv before))
-        × (entries_in s.bound after ≡ entries_in s.bound before)
-        × Memory names.now terms.now used known.new }
+    requires inside { Within store.now (left_of s) }
+    requires entries { Known store.now.used s.bound binds.old × (x ≤ s.bound) × (x < name_limit) }
+    requires memory { Remembers store.now known.old }
+    ensures turns { (lv : List ℕ) → turn_of result lv binds.new ≡ turn_in store.now (many x) last (spec_place_of s lv binds.old) }
+    ensures entries { entries_in s.bound binds.new ≡ entries_in s.bound binds.old }
+    ensures memory { Remembers store.now known.new }
 {
     if s.bound <= x {
         if last {
@@ -224,7 +222,11 @@ fn turn_expression(
     if s.len < e.len {
         return Turned::Stop;
     }
-    if !equality::equal_runs_of(names, terms, used, e.start, e.len, s.start, e.len, known) {
+    let ahead = Run {
+        start: s.start,
+        len: e.len,
+    };
+    if !equality::equal_runs(store, e, ahead, known) {
         return Turned::Stop;
     }
     Turned::Next(pass(s, e.len))
@@ -236,11 +238,12 @@ pub fn ends_apart(kind: usize, x: usize, last: bool, s: State, binds: &[u32]) ->
     requires { (s.bound ≤ name_limit) × EntryRoom binds.now }
     ensures { result ≡ true → EndsApart kind x last s.bound s.len binds.now }
 {
-    kind == items::E_VARIABLE && last && x < s.bound && entry(binds, x).len != s.len
+    kind == ItemKind::EVariable.number() && last && x < s.bound && entry(binds, x).len != s.len
 }
 
 // The turn of a record, x being the number of its name; `last` says whether its level ends after it. Of the levels it writes the place after
 // those around, and only where it goes on; of the entries the next one.
+#[tactic(auto, using(crate::specs::StepLaws::record_turns), unfolding(crate::specs::State::turn_of, crate::specs::State::Restores))]
 pub fn turn(
     store: &Store,
     t: Item,
@@ -259,64 +262,21 @@ pub fn turn(
         × (entries_in s.bound binds.new ≡ entries_in s.bound binds.old)
         × Remembers store.now known.new }
 {
-    turn_over(
-        store.names,
-        store.terms,
-        store.used,
-        t,
-        x,
-        last,
-        s,
-        levels,
-        binds,
-        known,
-    )
-}
-
-pub fn turn_over(
-    names: &[u8],
-    terms: &[u32],
-    used: usize,
-    t: Item,
-    x: usize,
-    last: bool,
-    s: State,
-    levels: &mut [u32],
-    binds: &mut [u32],
-    known: &mut [u16],
-) -> Turned
-    requires store { TermStore names.now terms.now used × (used ≤ limit) × Stands used (spec_place_of s levels.old binds.old)
-        × Memory names.now terms.now used known.old }
-    requires rule { T (item_rule_k t.kind names.now (as_item t)) × Fine t.kind x s.depth s.bound }
-    ensures { let element = coded names.now (as_item t) x in
-        let due = turn_at names.now terms.now used element last in
-        (turn_of result levels.new binds.new ≡ due (spec_place_of s levels.old binds.old))
-        × LevelsKept s.depth result levels.old levels.new
-        × (entries_in s.bound binds.new ≡ entries_in s.bound binds.old)
-        × Memory names.now terms.now used known.new }
-{
-    // The kinds are numbers, as the lent words have them, and in order: one test tells literals, one the variables of one term.
-    if t.kind < items::OPEN {
-        return turn_literal(names, terms, t, s);
+    match ItemKind::try_from(t.kind) {
+        Ok(ItemKind::Char | ItemKind::Identifier | ItemKind::Number) => turn_literal(store, t, s),
+        Ok(ItemKind::Open) => turn_open(store, s, levels),
+        Ok(ItemKind::Close) => turn_close(s, levels),
+        Ok(ItemKind::SVariable) => turn_single(store, VariableKind::Symbol, x, s, binds, known),
+        Ok(ItemKind::TVariable) => turn_single(store, VariableKind::Term, x, s, binds, known),
+        Ok(ItemKind::EVariable) => turn_expression(store, x, last, s, binds, known),
+        Ok(ItemKind::Call | ItemKind::Block) | Err(_) => Turned::Call,
     }
-    if t.kind == items::OPEN {
-        return turn_open(terms, s, levels);
-    }
-    if t.kind == items::CLOSE {
-        return turn_close(s, levels);
-    }
-    if t.kind < items::E_VARIABLE {
-        return turn_single(names, terms, used, t, x, s, binds, known);
-    }
-    if t.kind == items::E_VARIABLE {
-        return turn_expression(names, terms, used, x, last, s, binds, known);
-    }
-    Turned::Call
 }
 
 // Whether a level ends before record p.
+#[tactic(auto, using(crate::specs::StepLaws::level_ends))]
 pub fn ends_at(pattern: &[u32], p: usize) -> bool
     ensures { (names numbers : List ℕ) → result ≡ ends (drop p (pattern_in names pattern.now numbers)) }
 {
-    pattern.len() / items::ITEM_WIDTH <= p || words::get::<Item>(pattern, p).kind == items::CLOSE
+    pattern.len() / items::ITEM_WIDTH <= p || words::get::<Item>(pattern, p).is(ItemKind::Close)
 }
