@@ -4,7 +4,7 @@ use Rattle.equality.specs.Memory.{Memory}
 use Rattle.steps.specs.State.{left_of}
 use Rattle.rigid.specs.Fit.{split_fits}
 use Rattle.rigid.specs.SplitLaws.{Passed}
-use Rattle.rigid.proofs.next_split_of.Given as goal
+use Rattle.rigid.proofs.next_split.Given as goal
 
 abbrev pub invariant-loop-j : goal.invariant-loop-j
 invariant-loop-j l = record {

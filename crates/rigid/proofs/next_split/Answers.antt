@@ -1,7 +1,7 @@
 -- `rigid::next_split`: the splits passed over fail, those that `skip_apart` leaves out too, and the one found fits.
 use Rattle.std.proofs.Common.{◌∙◌, arith}
 use Rattle.rigid.specs.SplitLaws.{passed_apart, at_split, passed_start, passed-one, first_found, first_past}
-use Rattle.rigid.proofs.next_split_of.Goals as goal
+use Rattle.rigid.proofs.next_split.Goals as goal
 
 pub loop-j-init : goal.loop-j-init
 loop-j-init c = record { passed = passed_start c.requires.split; memory = c.requires.ready.2 }
