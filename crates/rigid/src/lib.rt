@@ -114,7 +114,13 @@ fn opens(t: Item) -> usize
 }
 
 // Whether the run from record p on fits what is left of the innermost level.
-pub fn rigid_run_matches(given: &Given, p: usize, s: State, binds: &[u32], known: &mut [u16]) -> bool
+pub fn rigid_run_matches(
+    given: &Given,
+    p: usize,
+    s: State,
+    binds: &[u32],
+    known: &mut [u16],
+) -> bool
     requires ready { Within given.now.store (left_of s) × Known given.now.store.used s.bound binds.now × Remembers given.now.store known.old }
     ensures { (result ≡ fits_run given.now p s.bound binds.now (left_of s)) × Remembers given.now.store known.new }
 {
@@ -177,6 +183,7 @@ fn next_begin(terms: &[u32], t: Item, from: usize, end: usize) -> usize
 }
 
 // Passes over splits from j on where the record p that comes after the e-variable cannot fit.
+#[tactic(auto, using(crate::specs::KindLaws::apart_by))]
 fn skip_apart(given: &Given, p: usize, s: State, j: usize) -> usize
     requires { Within given.now.store (left_of s) × (j ≤ s.len) }
     ensures { let apart = ApartAt given.now.store.terms.now given.now.pattern.now p in

@@ -1,5 +1,5 @@
 -- `rigid::fit_record`: an e-variable's record is its element, and opens nothing.
-use Rattle.std.proofs.Common.{◌≡◌, ℕ, sym, arith}
+use Rattle.std.proofs.Common.{◌≡◌, sym, arith}
 use Rattle.std.proofs.lemmas.Grind.{common_steps}
 use Rattle.steps.specs.StepLaws.{coded_many}
 use Rattle.items.specs.Records.{as_item}

@@ -1,5 +1,5 @@
 -- `rigid::rigid_run_matches`: each exit is one law of what is left of the run.
-use Rattle.std.proofs.Common.{◌≡◌, List, ℕ, refl, ◌≤◌, arith}
+use Rattle.std.proofs.Common.{refl, arith}
 use Rattle.term_spec.specs.Words.{count}
 use Rattle.rigid.specs.FitLaws.{left-first, left_end, left_item, left_skipped, left_no, left-ends, left-takes, taken_in}
 use Rattle.rigid.proofs.rigid_run_matches.Goals as goal
