@@ -9,7 +9,7 @@ loop-i-init c = let asked = c.requires.ready in record { left = left-first asked
 
 pub loop-i-preserved-then-d-gt0 : goal.loop-i-preserved-then-d-gt0
 loop-i-preserved-then-d-gt0 c = record {
-  left = left_skipped c.loop-i.invariant.left c.loop-i-test.true c.get-t.ensures c.if-d-gt0.true c.skip-d.ensures;
+  left = left_skipped c.loop-i.invariant.left c.loop-i-test.true c.get-t.ensures (omega arith) c.skip-d.ensures;
   bound = c.loop-i.invariant.bound;
   memory = c.loop-i.invariant.memory;
 }
@@ -30,13 +30,13 @@ pub returns-in-No : goal.returns-in-No
 returns-in-No c =
     let inv = c.loop-i.invariant in
     let goes = rw inv.bound at c.fit_record.ensures.0.1 in
-    (left_no inv.left c.loop-i-test.true c.get-t.ensures _ c.if-d-gt0.false c.word-x.ensures goes c.in-No.is, c.fit_record.ensures.1)
+    (left_no inv.left c.loop-i-test.true c.get-t.ensures _ (omega arith) c.word-x.ensures goes c.in-No.is, c.fit_record.ensures.1)
 
 pub returns-in-Ends : goal.returns-in-Ends
 returns-in-Ends c =
     let inv = c.loop-i.invariant in
     let goes = rw inv.bound at c.fit_record.ensures.0.1 in
-    (left-ends inv.left c.loop-i-test.true c.get-t.ensures _ c.if-d-gt0.false c.word-x.ensures goes c.in-Ends.is, c.fit_record.ensures.1)
+    (left-ends inv.left c.loop-i-test.true c.get-t.ensures _ (omega arith) c.word-x.ensures goes c.in-Ends.is, c.fit_record.ensures.1)
 
 pub pass-here-requires : goal.pass-here-requires
 pass-here-requires c =
@@ -49,7 +49,7 @@ loop-i-preserved c =
     let goes = rw inv.bound at c.fit_record.ensures.0.1 in
     record {
       left = rw c.pass-here.ensures
-          (left-takes inv.left c.loop-i-test.true c.get-t.ensures _ c.if-d-gt0.false c.word-x.ensures goes c.fit_record.ensures.0.0 c.in-Takes.is c.opens-d.ensures);
+          (left-takes inv.left c.loop-i-test.true c.get-t.ensures _ (omega arith) c.word-x.ensures goes c.fit_record.ensures.0.0 c.in-Takes.is c.opens-d.ensures);
       bound = rw c.pass-here.ensures inv.bound;
       memory = c.fit_record.ensures.1;
     }
