@@ -2,3 +2,4 @@ pub mod Fit
 pub mod Stores
 pub mod FitLaws
 pub mod SplitLaws
+pub mod KindLaws

@@ -2,23 +2,26 @@
 // known s- or t-variable by the kind of term it takes and not by its value, a known e-variable by its terms.
 #![tactic(auto)]
 
-ghost use Rattle.std.specs.Prelude.{◌≡◌, false, List, ◌∷◌, ℕ, zero, ◌+◌, ◌<◌, ◌≤◌, T};
-ghost use Rattle.term_spec.specs.Words.{Lies, record_at, decode};
-ghost use Rattle.term_spec.specs.Term.{Run as SpecRun, term_layout};
-ghost use Rattle.match_spec.specs.Element.{Element};
+ghost use Rattle.std.specs.Prelude.{◌≡◌, false, ℕ, ◌+◌, ◌<◌, ◌≤◌, T};
+ghost use Rattle.term_spec.specs.Words.{Lies, record_at};
+ghost use Rattle.term_spec.specs.Term.{term_layout};
+ghost use Rattle.match_spec.specs.Element.{many};
 ghost use Rattle.match_spec.specs.Pattern.{item_rule_k, pattern_limit, close_kind, expression_variable_kind};
-ghost use Rattle.equality.specs.Memory.{Memory};
 ghost use Rattle.equality.specs.Stores.{Remembers};
 ghost use Rattle.value.specs.Store.{Within};
-ghost use Rattle.rigid.specs.Stores.{fits_split};
 ghost use Rattle.items.specs.Records.{as_item};
-ghost use Rattle.steps.specs.State.{left_of, back_of, RunReady, InStore, Known, PatternReady, coded};
-ghost use Rattle.rigid.specs.Fit.{fits_at, run_fits, split_fits, FitIn, fit_goes, opens_to, skips_to, fits_term, Apart, ApartAt, FirstOf};
+ghost use Rattle.steps.specs.State.{left_of, Known, coded};
+ghost use Rattle.rigid.specs.Fit.{opens_to, skips_to, Apart, ApartAt, FirstOf};
+ghost use Rattle.rigid.specs.Stores.{fits_at_term, Fits, fits_run, fits_split};
 
 use items::Item;
+use items::kind::ItemKind;
+use kinds::VariableKind;
 use steps::State;
 use steps::given::Given;
-use words::Term;
+use value::store::Store;
+use words::kind::TermKind;
+use words::{Run, Term};
 
 // What a record of the run does: it does not fit, the run ends before it, it takes so many terms.
 #[derive(Clone, Copy)]
@@ -29,125 +32,109 @@ pub enum Fit {
 }
 
 // A literal, a bracket, or an s- or t-variable at a term that is there.
-fn fit_term(names: &[u8], terms: &[u32], t: Item, start: usize) -> bool
-    requires store { InStore names.now terms.now (record { start = start; len = 1 }) }
-    requires rule { T (item_rule_k t.kind names.now (as_item t)) × (t.kind < expression_variable_kind) × (t.kind ≡ close_kind → ⊥) }
-    ensures { let terms = terms.entry.now in
-        ((used : ℕ) → start < used → result ≡ fits_term names.now (decode term_layout used terms) (as_item t) start) }
+#[tactic(auto, using(crate::specs::KindLaws::at_kinds))]
+fn fit_term(store: &Store, t: Item, start: usize) -> bool
+    requires inside { start < store.now.used }
+    requires rule { T (item_rule_k t.kind store.now.names.now (as_item t)) × (t.kind < expression_variable_kind) × (t.kind ≡ close_kind → ⊥) }
+    ensures { result ≡ fits_at_term store.now (as_item t) start }
 {
-    let u = words::get::<Term>(terms, start);
-    if t.kind == items::OPEN {
-        return u.kind == words::BRACKET;
+    let u = words::get::<Term>(store.terms, start);
+    match ItemKind::try_from(t.kind) {
+        Ok(ItemKind::Open) => u.is(TermKind::Bracket),
+        Ok(ItemKind::SVariable) => kinds::variable_accepts(VariableKind::Symbol, u),
+        Ok(ItemKind::TVariable) => kinds::variable_accepts(VariableKind::Term, u),
+        _ => value::symbol_matches(store.names, items::literal(t), u),
     }
-    if items::CLOSE < t.kind {
-        return kinds::row_accepts(t.kind - items::S_VARIABLE, u);
-    }
-    value::symbol_matches(names, items::literal(t), u)
 }
 
-// A record of the run at the `len` terms from `start` on; x is the number of its name, and `bound` entries are known.
-fn fit_record(
-    names: &[u8],
-    terms: &[u32],
-    used: usize,
-    t: Item,
-    x: usize,
-    bound: usize,
-    binds: &[u32],
-    start: usize,
-    len: usize,
-    known: &mut [u16],
-) -> Fit
-    requires ready { RunReady names.now terms.now used (record { start = start; len = len }) × Known used bound binds.now
-        × Memory names.now terms.now used known.old }
-    requires rule { T (item_rule_k t.kind names.now (as_item t)) }
-    ensures { let fits = fits_at names.now terms.now used bound binds.now in
-        let element = coded names.now (as_item t) x in
-        let ahead : SpecRun = record { start = start; len = len } in
-        FitIn len result
-        × ((p : List (Element ℕ)) → fits (element ∷ p) zero ahead ≡ fit_goes result (λ k. fits p (opens_to t.kind) (back_of k ahead)))
-        × Memory names.now terms.now used known.new }
+// An e-variable, whose name has number x, at what is left of the level: the run ends before an open one, a known one takes the terms that equal its own.
+#[tactic(auto, using(crate::specs::KindLaws::many_fits))]
+fn fit_expression(store: &Store, x: usize, s: State, binds: &[u32], known: &mut [u16]) -> Fit
+    requires ready { Within store.now (left_of s) × Known store.now.used s.bound binds.now × Remembers store.now known.old }
+    ensures { Fits store.now (many x) 0 s.bound binds.now (left_of s) result × Remembers store.now known.new }
 {
-    if t.kind == items::CLOSE {
+    if s.bound <= x {
         return Fit::Ends;
     }
-    if items::E_VARIABLE < t.kind {
-        return Fit::Ends;
-    }
-    if t.kind == items::E_VARIABLE {
-        if bound <= x {
-            return Fit::Ends;
-        }
-        let e = steps::entry(binds, x);
-        if len < e.len {
-            return Fit::No;
-        }
-        if !equality::equal_runs_of(names, terms, used, e.start, e.len, start, e.len, known) {
-            return Fit::No;
-        }
-        return Fit::Takes(e.len);
-    }
-    if len == 0 {
+    let e = steps::entry(binds, x);
+    if s.len < e.len {
         return Fit::No;
     }
-    if !fit_term(names, terms, t, start) {
-        return Fit::No;
+    let ahead = Run {
+        start: s.start,
+        len: e.len,
+    };
+    if equality::equal_runs(store, e, ahead, known) {
+        Fit::Takes(e.len)
+    } else {
+        Fit::No
     }
-    Fit::Takes(1)
+}
+
+// A record of the run, whose name has number x, at what is left of the level.
+#[tactic(auto, using(crate::specs::KindLaws::record_kinds))]
+fn fit_record(store: &Store, t: Item, x: usize, s: State, binds: &[u32], known: &mut [u16]) -> Fit
+    requires ready { Within store.now (left_of s) × Known store.now.used s.bound binds.now × Remembers store.now known.old }
+    requires rule { T (item_rule_k t.kind store.now.names.now (as_item t)) }
+    ensures { let element = coded store.now.names.now (as_item t) x in
+        Fits store.now element (opens_to t.kind) s.bound binds.now (left_of s) result × Remembers store.now known.new }
+{
+    match ItemKind::try_from(t.kind) {
+        Ok(ItemKind::EVariable) => fit_expression(store, x, s, binds, known),
+        Ok(ItemKind::Close | ItemKind::Call | ItemKind::Block) | Err(_) => Fit::Ends,
+        _ => {
+            if s.len == 0 || !fit_term(store, t, s.start) {
+                Fit::No
+            } else {
+                Fit::Takes(1)
+            }
+        }
+    }
 }
 
 // How a record inside a bracket of the run changes the brackets that are passed over.
-fn skip(kind: usize, d: usize) -> usize
+#[tactic(auto, using(crate::specs::KindLaws::skips_kinds))]
+fn skip(t: Item, d: usize) -> usize
     requires { (1 ≤ d) × (d ≤ pattern_limit) }
-    ensures { result ≡ skips_to kind d }
+    ensures { result ≡ skips_to t.kind d }
 {
-    if kind == items::OPEN {
-        return d + 1;
+    match ItemKind::try_from(t.kind) {
+        Ok(ItemKind::Open) => d + 1,
+        Ok(ItemKind::Close) => d - 1,
+        _ => d,
     }
-    if kind == items::CLOSE {
-        return d - 1;
-    }
-    d
 }
 
 // 1 after an Open, 0 after any other record.
-fn opens(kind: usize) -> usize
-    ensures { result ≡ opens_to kind }
+#[tactic(auto, using(crate::specs::FitLaws::opens_is))]
+fn opens(t: Item) -> usize
+    ensures { result ≡ opens_to t.kind }
 {
-    usize::from(kind == items::OPEN)
+    usize::from(t.is(ItemKind::Open))
 }
 
 // Whether the run from record p on fits what is left of the innermost level.
 pub fn rigid_run_matches(
-    names: &[u8],
-    terms: &[u32],
-    used: usize,
-    pattern: &[u32],
-    numbers: &[u32],
+    given: &Given,
     p: usize,
     s: State,
     binds: &[u32],
     known: &mut [u16],
 ) -> bool
-    requires ready { RunReady names.now terms.now used (left_of s) × Known used s.bound binds.now
-        × Memory names.now terms.now used known.old }
-    requires rules { PatternReady names.now pattern.now numbers.now }
-    ensures { let fits = run_fits names.now terms.now used pattern.now numbers.now p in
-        (result ≡ fits s.bound binds.now (left_of s))
-        × Memory names.now terms.now used known.new }
+    requires ready { Within given.now.store (left_of s) × Known given.now.store.used s.bound binds.now × Remembers given.now.store known.old }
+    ensures { (result ≡ fits_run given.now p s.bound binds.now (left_of s)) × Remembers given.now.store known.new }
 {
-    let n = pattern.len() / items::ITEM_WIDTH;
+    let n = given.pattern.len() / items::ITEM_WIDTH;
     let mut d: usize = 0;
-    let mut start = s.start;
-    let mut len = s.len;
+    let mut here = s;
     for i in p..n {
-        let t = words::get::<Item>(pattern, i);
+        let t = words::get::<Item>(given.pattern, i);
         if 0 < d {
-            d = skip(t.kind, d);
+            d = skip(t, d);
             continue;
         }
-        let x = words::word(numbers, i);
-        match fit_record(names, terms, used, t, x, s.bound, binds, start, len, known) {
+        let x = words::word(given.numbers, i);
+        match fit_record(&given.store, t, x, here, binds, known) {
             Fit::No => {
                 return false;
             }
@@ -155,9 +142,8 @@ pub fn rigid_run_matches(
                 return true;
             }
             Fit::Takes(k) => {
-                start += k;
-                len -= k;
-                d = opens(t.kind);
+                here = steps::pass(here, k);
+                d = opens(t);
             }
         }
     }
@@ -174,7 +160,7 @@ fn may_begin(terms: &[u32], t: Item, i: usize) -> bool
 {
     let u = words::get::<Term>(terms, i);
     // As one condition this was proved too, but both words were then read at each term: passing over terms took a third longer.
-    if t.kind == words::CHAR {
+    if t.is(ItemKind::Char) {
         if u.a != t.a {
             return false;
         }
@@ -197,19 +183,22 @@ fn next_begin(terms: &[u32], t: Item, from: usize, end: usize) -> usize
 }
 
 // Passes over splits from j on where the record p that comes after the e-variable cannot fit.
-fn skip_apart(terms: &[u32], pattern: &[u32], p: usize, s: State, j: usize) -> usize
-    requires { Lies term_layout terms.now (s.start + s.len) × (j ≤ s.len) }
-    ensures { let apart = ApartAt terms.now pattern.now p in
+#[tactic(auto, using(crate::specs::KindLaws::apart_by))]
+fn skip_apart(given: &Given, p: usize, s: State, j: usize) -> usize
+    requires { Within given.now.store (left_of s) × (j ≤ s.len) }
+    ensures { let apart = ApartAt given.now.store.terms.now given.now.pattern.now p in
         (j ≤ result) × (result ≤ s.len) × ((i : ℕ) → j ≤ i → i < result → apart (s.start + i)) }
 {
-    if pattern.len() / items::ITEM_WIDTH <= p {
+    if given.pattern.len() / items::ITEM_WIDTH <= p {
         return j;
     }
-    let t = words::get::<Item>(pattern, p);
-    if items::OPEN < t.kind {
-        return j;
+    let t = words::get::<Item>(given.pattern, p);
+    match ItemKind::try_from(t.kind) {
+        Ok(ItemKind::Char | ItemKind::Identifier | ItemKind::Number | ItemKind::Open) => {
+            next_begin(given.store.terms, t, s.start + j, s.start + s.len) - s.start
+        }
+        _ => j,
     }
-    next_begin(terms, t, s.start + j, s.start + s.len) - s.start
 }
 
 // The first split from k on, of those that give 0 to s.len terms to the e-variable, where the run from record p on fits.
@@ -225,55 +214,11 @@ pub fn next_split(
     requires split { k ≤ s.len + 1 }
     ensures { FirstOf (fits_split given.now p s.bound binds.now (left_of s)) k s.len result × Remembers given.now.store known.new }
 {
-    next_split_of(
-        given.store.names,
-        given.store.terms,
-        given.store.used,
-        given.pattern,
-        given.numbers,
-        p,
-        s,
-        binds,
-        k,
-        known,
-    )
-}
-
-pub fn next_split_of(
-    names: &[u8],
-    terms: &[u32],
-    used: usize,
-    pattern: &[u32],
-    numbers: &[u32],
-    p: usize,
-    s: State,
-    binds: &[u32],
-    k: usize,
-    known: &mut [u16],
-) -> Option<usize>
-    requires ready { RunReady names.now terms.now used (left_of s) × Known used s.bound binds.now
-        × Memory names.now terms.now used known.old }
-    requires rules { PatternReady names.now pattern.now numbers.now }
-    requires split { k ≤ s.len + 1 }
-    ensures { let fits = split_fits names.now terms.now used pattern.now numbers.now p in
-        FirstOf (fits s.bound binds.now (left_of s)) k s.len result
-        × Memory names.now terms.now used known.new }
-{
     // Counted by hand, since a turn passes over as many splits as `skip_apart` says.
     let mut j = k;
     while j <= s.len {
-        j = skip_apart(terms, pattern, p, s, j);
-        if rigid_run_matches(
-            names,
-            terms,
-            used,
-            pattern,
-            numbers,
-            p,
-            steps::pass(s, j),
-            binds,
-            known,
-        ) {
+        j = skip_apart(given, p, s, j);
+        if rigid_run_matches(given, p, steps::pass(s, j), binds, known) {
             return Some(j);
         }
         j += 1;

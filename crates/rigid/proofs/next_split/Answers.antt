@@ -1,34 +1,36 @@
 -- `rigid::next_split`: the splits passed over fail, those that `skip_apart` leaves out too, and the one found fits.
 use Rattle.std.proofs.Common.{◌∙◌, arith}
 use Rattle.rigid.specs.SplitLaws.{passed_apart, at_split, passed_start, passed-one, first_found, first_past}
-use Rattle.rigid.proofs.next_split_of.Goals as goal
+use Rattle.rigid.proofs.next_split.Goals as goal
 
 pub loop-j-init : goal.loop-j-init
 loop-j-init c = record { passed = passed_start c.requires.split; memory = c.requires.ready.2 }
 
-pub rigid_run_matches-requires-clause-ready : goal.rigid_run_matches-requires-clause-ready
-rigid_run_matches-requires-clause-ready c =
+pub rigid_run_matches-requires : goal.rigid_run_matches-requires
+rigid_run_matches-requires c =
     let a = c.requires.ready in
     let e = c.pass.ensures in
     let j = c.skip_apart-j.ensures.1 in
-    (record { store = a.0.store; few = a.0.few; inside = rw e (omega (arith, a.0.inside, j)) }, rw e a.1, c.loop-j.invariant.memory)
+    record { ready = (rw e (omega (arith, a.0, j)), rw e a.1, c.loop-j.invariant.memory) }
 
 pub returns-then-rigid_run_matches : goal.returns-then-rigid_run_matches
 returns-then-rigid_run_matches c =
-    let a = c.args in
+    let v = c.args.given.now in
     let n = c.skip_apart-j.ensures in
-    let told = at_split a.names.now a.terms.now a.used a.pattern.now a.numbers.now a.p a.binds.now a.s _ _ c.pass.ensures c.rigid_run_matches.ensures.0 in (
-      (first_found (passed_apart _ _ _ _ _ _ _ _ _ c.requires.ready.0.inside c.loop-j.invariant.passed _ n) n.1 (told ∙ c.if-rigid_run_matches.true), n.1),
+    let told = at_split v.store.names.now v.store.terms.now v.store.used v.pattern.now v.numbers.now c.args.p c.args.binds.now c.args.s _ _ c.pass.ensures
+    c.rigid_run_matches.ensures.0 in (
+      (first_found (passed_apart _ _ _ _ _ _ _ _ _ c.requires.ready.0 c.loop-j.invariant.passed _ n) n.1 (told ∙ c.if-rigid_run_matches.true), n.1),
       c.rigid_run_matches.ensures.1,
     )
 
 pub loop-j-preserved : goal.loop-j-preserved
 loop-j-preserved c =
-    let a = c.args in
+    let v = c.args.given.now in
     let n = c.skip_apart-j.ensures in
-    let told = at_split a.names.now a.terms.now a.used a.pattern.now a.numbers.now a.p a.binds.now a.s _ _ c.pass.ensures c.rigid_run_matches.ensures.0 in
+    let told = at_split v.store.names.now v.store.terms.now v.store.used v.pattern.now v.numbers.now c.args.p c.args.binds.now c.args.s _ _ c.pass.ensures
+    c.rigid_run_matches.ensures.0 in
     record {
-      passed = passed-one (passed_apart _ _ _ _ _ _ _ _ _ c.requires.ready.0.inside c.loop-j.invariant.passed _ n) n.1 (told ∙ c.if-rigid_run_matches.false);
+      passed = passed-one (passed_apart _ _ _ _ _ _ _ _ _ c.requires.ready.0 c.loop-j.invariant.passed _ n) n.1 (told ∙ c.if-rigid_run_matches.false);
       memory = c.rigid_run_matches.ensures.1;
     }
 
