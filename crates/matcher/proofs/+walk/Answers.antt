@@ -82,7 +82,7 @@ walk-got-requires t c =
 
 pub put-requires : goal.put-requires
 put-requires t c = (
-  omega (arith, depth_room c.requires.ready.0, c.take_turn.auto.levels, c.walk-got.auto.levels),
+  omega (arith, depth_room c.requires.ready.0, c.take_turn.auto.levels),
   small_read _ _ _ c.fits-levels c.get-around.ensures,
 )
 
@@ -163,8 +163,7 @@ next_split-next-requires-in-Some-clause-ready t c =
     let o = rw c.in-Some.is at c.loop-next.invariant.splitting in
     let same = given-kept y turn e o.0 o.1 _ c.give-after.ensures.0 c.give-after.ensures.1 c.walk-got-in-Some.ensures.0 in (
       split_inside y turn e,
-      split_known y turn e _ same
-          (omega (arith, y.entry-room, c.take_turn.auto.binds, o.0.binds_length, c.give-after.auto.binds, c.walk-got-in-Some.auto.binds)),
+      split_known y turn e _ same (omega (arith, y.entry-room, c.take_turn.auto.binds, o.0.binds_length, c.give-after.auto.binds)),
       c.walk-got-in-Some.ensures.1,
     )
 
@@ -174,7 +173,7 @@ loop-next-preserved t c =
     let goes : c.walk-got-in-Some.result.stop ≡ Going = search (rules, tests) in
     record {
       splitting = splitting_on c.requires.ready.0 c.take_turn.ensures.0 c.in-Split.is o.0 o.1 _ c.give-after.ensures.0 c.give-after.ensures.1
-          c.walk-got-in-Some.ensures.0 _ goes (omega (arith, c.walk-got-in-Some.auto.binds, c.give-after.auto.binds)) c.walk-got-in-Some.auto.slots
+          c.walk-got-in-Some.ensures.0 _ goes (omega (arith, c.give-after.auto.binds)) c.walk-got-in-Some.auto.slots
           c.next_split-next-in-Some.ensures.0;
       memory = c.next_split-next-in-Some.ensures.1;
     }
