@@ -10,7 +10,8 @@ use Rattle.view_read.specs.Read.{settled_of}
 use Rattle.matcher.specs.declared.Goal.{Goal}
 use Rattle.listing.specs.Match.{Started, matched_of, request_of}
 use Rattle.listing.specs.RefusalLaws.{within_8}
-use Rattle.listing.specs.ListLaws.{Settled, settled_from, store-after, few_after, pattern_after, start-inside, ready_start, slots_start, exit_refused, exit_start, exit_names, exit_full, exit_done}
+use Rattle.listing.specs.ListLaws.{Settled, settled_from, store-after, few_after, pattern_after, start-inside, ready_start, slots_start}
+use Rattle.listing.specs.ListLaws.{exit_refused, exit_start, exit_names, exit_full, exit_done}
 use Rattle.listing.proofs.list.Goals as goal
 use Rattle.listing.proofs.list.Goals.{In_ok-run}
 
@@ -52,7 +53,7 @@ returns-in_err-run c =
     (exit_full _ _ _ c.in_ok-check_request.ensures refl counted few _ _ _ _
     (c.settle.ensures _ y.store (record { low = y.low; fits = y.within })) (ap settled_of c.in_err-run.was))
 
--- ---- after settling ----
+-- ---- after settling: what the checks 1 to 9 let pass, and what settling left ----
 
 settled : (c : In_ok-run) → Settled (store_of c.args.names.now c.args.terms.now c.args.terms_used.now c.args.nodes.now c.args.nodes_used)
     (request_of (as_field c.args.f) c.args.pattern.now c.args.bindings.now c.args.slots.now) c.in-Some.entries c.number_names.new.numbers
