@@ -36,7 +36,7 @@ use Rattle.view_read.specs.Read.{settled_if, settled_by}
 use Rattle.value.specs.Equal.{TermStore}
 use Rattle.nodes.specs.NodeStore.{nodes_in, NodeStore}
 use Rattle.pattern.specs.Records.{numbers_of}
-use Rattle.steps.specs.State.{stack_of, level_of, levels_of, entries_of, pattern_in}
+use Rattle.steps.specs.State.{stack_of, level_of, levels_of, entries_of, pattern_in, PatternReady}
 use Rattle.steps.specs.Stays.{Stays}
 use Rattle.matcher.specs.declared.Tally.{Tally}
 use Rattle.matcher.specs.Ready.{given_of, candidates_in, status_of, progress_of, wanted_of, SlotsReady, Filled, Written}
@@ -196,6 +196,14 @@ module _ (s : Store) (m : Request) (entries : ℕ) (numbers : List ℕ) (run : R
   pub store-after : TermStore s.names words used
   store-after = record { fits = omega (arith, room-terms.1, words_size); good = rw terms-after settles_here.good }
 
+  pub few_after : used ≤ limit
+  few_after = room-terms.0
+
+  -- the pattern is within its rules, with a number for each record
+  pub pattern_after : PatternReady s.names m.pattern numbers
+  unfolding count
+  pattern_after = record { rule = o.pattern_ok; short = omega (arith, o.short); numbered = omega (arith, o.short, o.many) }
+
   -- the run is among the used terms
   pub start-inside : Inside used run
   start-inside = rw o.run_is (omega (arith, run_facts _ _ settles_here.inside, used_size))
@@ -225,8 +233,8 @@ module _ (s : Store) (m : Request) (entries : ℕ) (numbers : List ℕ) (run : R
     unfolding count
     ready_start st el ee rl rb = record {
       store = store-after;
-      few = room-terms.0;
-      pattern = record { rule = o.pattern_ok; short = omega (arith, o.short); numbered = omega (arith, o.short, o.many) };
+      few = few_after;
+      pattern = pattern_after;
       here = omega arith;
       stays = stays_at;
       names_few = o.few;

@@ -5,17 +5,22 @@
 mod walks;
 
 ghost use Rattle.std.specs.Prelude.{◌≡◌, List, ◌≤◌, length};
-ghost use Rattle.term_spec.specs.Term.{Run as SpecRun};
+ghost use Rattle.term_spec.specs.Term.{Run as SpecRun, limit};
 ghost use Rattle.match_spec.specs.Pattern.{name_limit};
 ghost use Rattle.match_spec.specs.Answer.{allOfThem, headOnly, spec_slots_in, number_of};
 ghost use Rattle.calls_spec.specs.Step.{call_match, step, match_answer, spec_name_count};
 ghost use Rattle.view.specs.Check.{as_field, store_of, numbered};
 ghost use Rattle.words.specs.Refusals.{told_number};
-ghost use Rattle.matcher.specs.Ready.{status_of, wanted_of};
+ghost use Rattle.value.specs.Equal.{TermStore};
+ghost use Rattle.steps.specs.State.{PatternReady};
+ghost use Rattle.matcher.specs.Given.{spec_given};
+ghost use Rattle.matcher.specs.Ready.{given_of, status_of, wanted_of};
 ghost use Rattle.listing.specs.Match.{matched_of, leaves_slots, request_of, even_words, refused_to8};
 
 use items::Binding;
 use matcher::{Goal, Status, Tally};
+use steps::given::Given;
+use value::store::Store;
 use view::Field;
 use words::refusal::Refusal;
 
@@ -121,6 +126,26 @@ fn answer(t: Tally, names: usize) -> Result<Matched, Refusal>
     }
 }
 
+// What the walk reads, gathered.
+fn gather<'a>(
+    names: &'a [u8],
+    terms: &'a [u32],
+    used: usize,
+    pattern: &'a [u32],
+    numbers: &'a [u32],
+) -> Given<'a>
+    requires store { TermStore names.now terms.now used × (used ≤ limit) }
+    requires pattern { PatternReady names.now pattern.now numbers.now }
+    ensures { spec_given result ≡ given_of names.now terms.now used pattern.now numbers.now }
+{
+    let store = Store { names, terms, used };
+    Given {
+        store,
+        pattern,
+        numbers,
+    }
+}
+
 // The candidates of a pattern over a field, or the head of their list.
 fn list(
     names: &[u8],
@@ -159,17 +184,8 @@ fn list(
     let run = view_read::settle(terms, terms_used, nodes, f)?;
     let cap = slots_in(slots.len(), entries);
     let g = Goal { entries, cap, head };
-    let tally = walks::walk_from(
-        names,
-        terms,
-        *terms_used,
-        pattern,
-        &numbers,
-        bindings,
-        run,
-        g,
-        slots,
-    );
+    let given = gather(names, terms, *terms_used, pattern, &numbers);
+    let tally = walks::walk_from(&given, bindings, run, g, slots);
     answer(tally, entries)
 }
 

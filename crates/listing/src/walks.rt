@@ -2,14 +2,15 @@
 ghost use Rattle.std.specs.Prelude.{◌≡◌, map, ◌+◌, ◌*◌, ◌^◌, ◌<◌, ◌≤◌, length};
 ghost use Rattle.term_spec.specs.Words.{count, records};
 ghost use Rattle.match_spec.specs.Pattern.{binding_layout, bound_run, name_limit};
-ghost use Rattle.equality.specs.Memory.{Memory};
+ghost use Rattle.equality.specs.Stores.{Remembers};
 ghost use Rattle.steps.specs.State.{entries_in, EntryRoom};
-ghost use Rattle.matcher.specs.Ready.{given_of};
+ghost use Rattle.matcher.specs.Given.{spec_given};
 ghost use Rattle.listing.specs.Match.{CanStart, Started};
 
 use items::{Binding, Item};
 use matcher::{Goal, Status, Tally};
 use steps::State;
+use steps::given::Given;
 use words::Run;
 
 // The start's entries become the first runs of `binds`.
@@ -30,21 +31,15 @@ fn start(bindings: &[u32], binds: &mut [u32])
 
 // The walk over a settled run from the start's entries, with the words of its levels and entries; what comparing finds is kept in `known`.
 fn walk_with(
-    names: &[u8],
-    terms: &[u32],
-    used: usize,
-    pattern: &[u32],
-    numbers: &[u32],
+    given: &Given,
     bindings: &[u32],
     run: Run,
     g: Goal,
     slots: &mut [u32],
     known: &mut [u16],
 ) -> Tally
-    requires { let given = given_of names.now terms.now used pattern.now numbers.now in
-        CanStart given bindings.now run g slots.old × Memory names.now terms.now used known.old }
-    ensures { let given = given_of names.now terms.now used pattern.now numbers.now in
-        Started given bindings.now run g result slots.old slots.new }
+    requires { CanStart (spec_given given.now) bindings.now run g slots.old × Remembers given.now.store known.old }
+    ensures { Started (spec_given given.now) bindings.now run g result slots.old slots.new }
 {
     let mut levels = [0u32; steps::LEVEL_WORDS];
     let mut binds = [0u32; steps::ENTRY_WORDS];
@@ -59,21 +54,7 @@ fn walk_with(
         stop: Status::Going,
         count: 0,
     };
-    matcher::walk(
-        names,
-        terms,
-        used,
-        pattern,
-        numbers,
-        0,
-        at,
-        &mut levels,
-        &mut binds,
-        known,
-        g,
-        slots,
-        none,
-    )
+    matcher::walk(given, 0, at, &mut levels, &mut binds, known, g, slots, none)
 }
 
 // Words for what comparing finds, by the size of the store: to clear more than are needed would take longer than a small listing.
@@ -86,26 +67,18 @@ const MIDDLE: usize = 4096;
 // The walk with N words for what comparing finds. Not copied into its caller, which would have to touch each page of their stack at every call.
 #[inline(never)]
 fn walk_keeping<const N: usize>(
-    names: &[u8],
-    terms: &[u32],
-    used: usize,
-    pattern: &[u32],
-    numbers: &[u32],
+    given: &Given,
     bindings: &[u32],
     run: Run,
     g: Goal,
     slots: &mut [u32],
 ) -> Tally
     requires fits { N < 2 ^ 32 }
-    requires can_start { let given = given_of names.now terms.now used pattern.now numbers.now in
-        CanStart given bindings.now run g slots.old }
-    ensures { let given = given_of names.now terms.now used pattern.now numbers.now in
-        Started given bindings.now run g result slots.old slots.new }
+    requires can_start { CanStart (spec_given given.now) bindings.now run g slots.old }
+    ensures { Started (spec_given given.now) bindings.now run g result slots.old slots.new }
 {
     let mut known = [0u16; N];
-    walk_with(
-        names, terms, used, pattern, numbers, bindings, run, g, slots, &mut known,
-    )
+    walk_with(given, bindings, run, g, slots, &mut known)
 }
 
 // How many records of a pattern are variables.
@@ -123,39 +96,19 @@ fn variables(pattern: &[u32]) -> usize
 }
 
 // The walk with as much kept as it may need: in larger stores nothing where no variable is met twice, since then nothing is compared.
-pub fn walk_from(
-    names: &[u8],
-    terms: &[u32],
-    used: usize,
-    pattern: &[u32],
-    numbers: &[u32],
-    bindings: &[u32],
-    run: Run,
-    g: Goal,
-    slots: &mut [u32],
-) -> Tally
-    requires { let given = given_of names.now terms.now used pattern.now numbers.now in
-        CanStart given bindings.now run g slots.old }
-    ensures { let given = given_of names.now terms.now used pattern.now numbers.now in
-        Started given bindings.now run g result slots.old slots.new }
+pub fn walk_from(given: &Given, bindings: &[u32], run: Run, g: Goal, slots: &mut [u32]) -> Tally
+    requires { CanStart (spec_given given.now) bindings.now run g slots.old }
+    ensures { Started (spec_given given.now) bindings.now run g result slots.old slots.new }
 {
-    if used < SMALL {
-        return walk_keeping::<SMALL>(
-            names, terms, used, pattern, numbers, bindings, run, g, slots,
-        );
+    if given.store.used < SMALL {
+        return walk_keeping::<SMALL>(given, bindings, run, g, slots);
     }
-    let given = bindings.len() / items::BINDING_WIDTH;
-    if given + variables(pattern) == g.entries {
-        return walk_keeping::<NONE>(
-            names, terms, used, pattern, numbers, bindings, run, g, slots,
-        );
+    let bound = bindings.len() / items::BINDING_WIDTH;
+    if bound + variables(given.pattern) == g.entries {
+        return walk_keeping::<NONE>(given, bindings, run, g, slots);
     }
-    if used < MIDDLE {
-        return walk_keeping::<MIDDLE>(
-            names, terms, used, pattern, numbers, bindings, run, g, slots,
-        );
+    if given.store.used < MIDDLE {
+        return walk_keeping::<MIDDLE>(given, bindings, run, g, slots);
     }
-    walk_keeping::<{ equality::MEMORY }>(
-        names, terms, used, pattern, numbers, bindings, run, g, slots,
-    )
+    walk_keeping::<{ equality::MEMORY }>(given, bindings, run, g, slots)
 }

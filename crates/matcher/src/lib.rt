@@ -5,11 +5,10 @@
 ghost use Rattle.std.specs.Prelude.{◌≡◌, [], ◌∷◌, ◌≤◌};
 ghost use Rattle.match_spec.specs.Pattern.{name_limit};
 ghost use Rattle.match_spec.specs.Walk.{hit};
-ghost use Rattle.equality.specs.Memory.{Memory};
 ghost use Rattle.equality.specs.Stores.{Remembers};
 ghost use Rattle.matcher.specs.Given.{spec_given};
 ghost use Rattle.steps.specs.State.{spec_place_of, entries_in, EntryRoom};
-ghost use Rattle.matcher.specs.Ready.{given_of, events_from, Ready, CanTurn, TurnTaken, SlotsReady, Written, Walked};
+ghost use Rattle.matcher.specs.Ready.{events_from, Ready, CanTurn, TurnTaken, SlotsReady, Written, Walked};
 
 use items::Item;
 use steps::given::Given;
@@ -68,34 +67,28 @@ fn emit(binds: &[u32], g: Goal, slots: &mut [u32], f: Tally) -> Tally
 
 // The turn of record p. A known e-variable that ends its level with another number of terms stops without a turn.
 fn take_turn(
-    names: &[u8],
-    terms: &[u32],
-    used: usize,
-    pattern: &[u32],
-    numbers: &[u32],
+    given: &Given,
     p: usize,
     s: State,
     levels: &mut [u32],
     binds: &mut [u32],
     known: &mut [u16],
 ) -> Turned
-    requires { let given = given_of names.now terms.now used pattern.now numbers.now in
-        CanTurn given p (spec_place_of s levels.old binds.old) × Memory names.now terms.now used known.old }
-    ensures { let given = given_of names.now terms.now used pattern.now numbers.now in
-        let here = spec_place_of s levels.old binds.old in
-        TurnTaken given p here result levels.new binds.new
-        × Memory names.now terms.now used known.new }
+    requires { CanTurn (spec_given given.now) p (spec_place_of s levels.old binds.old) × Remembers given.now.store known.old }
+    ensures { let here = spec_place_of s levels.old binds.old in
+        TurnTaken (spec_given given.now) p here result levels.new binds.new × Remembers given.now.store known.new }
 {
-    let t = words::get::<Item>(pattern, p);
-    let x = words::word(numbers, p);
-    let last = steps::ends_at(pattern, p + 1);
+    let t = words::get::<Item>(given.pattern, p);
+    let x = words::word(given.numbers, p);
+    let last = steps::ends_at(given.pattern, p + 1);
     if steps::ends_apart(t.kind, x, last, s, binds) {
         return Turned::Stop;
     }
-    steps::turn_over(names, terms, used, t, x, last, s, levels, binds, known)
+    steps::turn(&given.store, t, x, last, s, levels, binds, known)
 }
 
-// The walk from record p on, with a tally that goes on.
+// The walk from record p on, with a tally that goes on. It calls itself at the next pattern record, and the split loop is inside. The words of
+// the levels are as they were when it returns, and those of the known entries are. Both are lent as arrays: that is one word less for each to hand on.
 pub fn walk(
     given: &Given,
     p: usize,
@@ -113,128 +106,34 @@ pub fn walk(
         let walked = Walked g (events_from (spec_given given.now) p here) f result slots.old slots.new here in
         walked levels.new binds.new × Remembers given.now.store known.new }
 {
-    walk_of(
-        given.store.names,
-        given.store.terms,
-        given.store.used,
-        given.pattern,
-        given.numbers,
-        p,
-        s,
-        levels,
-        binds,
-        known,
-        g,
-        slots,
-        f,
-    )
-}
-
-// The walk from record p on, with a tally that goes on. It calls itself at the next pattern record, and the split loop is inside. The words of
-// the levels are as they were when it returns, and those of the known entries are. Both are lent as arrays: that is one word less for each to hand on.
-pub fn walk_of(
-    names: &[u8],
-    terms: &[u32],
-    used: usize,
-    pattern: &[u32],
-    numbers: &[u32],
-    p: usize,
-    s: State,
-    levels: &mut [u32; steps::LEVEL_WORDS],
-    binds: &mut [u32; steps::ENTRY_WORDS],
-    known: &mut [u16],
-    g: Goal,
-    slots: &mut [u32],
-    f: Tally,
-) -> Tally
-    requires ready { let given = given_of names.now terms.now used pattern.now numbers.now in
-        Ready given p g.entries (spec_place_of s levels.old binds.old) × Memory names.now terms.now used known.old }
-    requires open_slots { SlotsReady g f slots.old }
-    ensures { let given = given_of names.now terms.now used pattern.now numbers.now in
-        let here = spec_place_of s levels.old binds.old in
-        let walked = Walked g (events_from given p here) f result slots.old slots.new here in
-        walked levels.new binds.new × Memory names.now terms.now used known.new }
-{
-    if pattern.len() / items::ITEM_WIDTH <= p {
+    if given.pattern.len() / items::ITEM_WIDTH <= p {
         if s.len != 0 {
             return f;
         }
         return emit(binds, g, slots, f);
     }
     let around = words::get::<Run>(levels, s.depth);
-    match take_turn(
-        names, terms, used, pattern, numbers, p, s, levels, binds, known,
-    ) {
+    match take_turn(given, p, s, levels, binds, known) {
         Turned::Stop => f,
         Turned::Call => Tally {
             stop: Status::Called,
             count: f.count,
         },
         Turned::Next(at) => {
-            let got = walk_of(
-                names,
-                terms,
-                used,
-                pattern,
-                numbers,
-                p + 1,
-                at,
-                levels,
-                binds,
-                known,
-                g,
-                slots,
-                f,
-            );
+            let got = walk(given, p + 1, at, levels, binds, known, g, slots, f);
             words::put(levels, s.depth, around);
             got
         }
         Turned::Split(at) => {
             let mut got = f;
-            let mut next = rigid::next_split_of(
-                names,
-                terms,
-                used,
-                pattern,
-                numbers,
-                p + 1,
-                at,
-                binds,
-                0,
-                known,
-            );
+            let mut next = rigid::next_split(given, p + 1, at, binds, 0, known);
             while let Some(k) = next {
-                let given = steps::give(at, k, binds);
-                got = walk_of(
-                    names,
-                    terms,
-                    used,
-                    pattern,
-                    numbers,
-                    p + 1,
-                    given,
-                    levels,
-                    binds,
-                    known,
-                    g,
-                    slots,
-                    got,
-                );
+                let after = steps::give(at, k, binds);
+                got = walk(given, p + 1, after, levels, binds, known, g, slots, got);
                 if got.stop != Status::Going {
                     return got;
                 }
-                next = rigid::next_split_of(
-                    names,
-                    terms,
-                    used,
-                    pattern,
-                    numbers,
-                    p + 1,
-                    at,
-                    binds,
-                    k + 1,
-                    known,
-                );
+                next = rigid::next_split(given, p + 1, at, binds, k + 1, known);
             }
             got
         }

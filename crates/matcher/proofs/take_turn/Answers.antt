@@ -18,11 +18,11 @@ returns-then-ends_apart c =
       c.requires.1,
     )
 
-pub turn_over-requires-clause-store : goal.turn_over-requires-clause-store
-turn_over-requires-clause-store c = let y = c.requires.0.ready in (y.store, y.few, ready_stands y, c.requires.1)
+pub turn-requires-clause-stands : goal.turn-requires-clause-stands
+turn-requires-clause-stands c = let y = c.requires.0.ready in (ready_stands y, c.requires.1)
 
-pub turn_over-requires-clause-rule : goal.turn_over-requires-clause-rule
-turn_over-requires-clause-rule c =
+pub turn-requires-clause-rule : goal.turn-requires-clause-rule
+turn-requires-clause-rule c =
     let start = c.requires.0 in (
       ready_item _ _ _ start.there c.get-t.ensures c.word-x.ensures start.ready,
       ready_fine _ _ _ start.there c.get-t.ensures c.word-x.ensures start.ready,
@@ -30,5 +30,5 @@ turn_over-requires-clause-rule c =
 
 pub returns : goal.returns
 returns c =
-    let turned = c.turn_over.ensures in
+    let turned = c.turn.ensures in
     (turn-taken _ _ _ c.requires.0.there c.get-t.ensures c.word-x.ensures (c.ends_at-last.ensures _ _) _ _ _ turned.0 turned.1 turned.2, turned.3)
