@@ -1,5 +1,5 @@
 -- Each exit is one law of equality.
-use Rattle.std.proofs.Common.{◌≡◌, List, true, ℕ, ◌+◌, ◌≤◌, arith, rules, sym, ◌∙◌}
+use Rattle.std.proofs.Common.{◌≡◌, List, true, ℕ, ◌+◌, ◌≤◌, arith, rules, ap, sym, ◌∙◌}
 use Rattle.value.specs.Equal.{equal_at}
 use Rattle.value.specs.EqualLaws.{depth_inside, runs_lengths, runs_same, runs-all, runs_none}
 use Rattle.term_spec.specs.Words.{record_at}
@@ -8,7 +8,7 @@ use Rattle.words.specs.declared.Term.{Term}
 use Rattle.words.specs.Records.{as_term, as_run}
 use Rattle.equality.specs.Within.{TermsIn, RunsIn, Tells}
 use Rattle.equality.specs.WithinLaws.{tells_different, tells-equal}
-use Rattle.equality.specs.TwoLaws.{Two, two_differ, two_texts, two_symbols, two_chars, two_chars_apart, two_brackets, two-contents, two_shallow, terms-inside}
+use Rattle.equality.specs.TwoLaws.{Two, two_differ, two_chars, two_chars_apart, two_brackets, two-contents, two_shallow, terms-inside}
 use Rattle.equality.specs.TwoLaws.{runs_next}
 use Rattle.equality.proofs.+equal_runs_within_equal_terms_within.Goals as goal
 
@@ -108,17 +108,19 @@ equal_terms_within-returns-then-t-eq-BRACKET t c used lies =
     let contents = two-contents here c.if-t-eq-BRACKET.true c.if-t-u.false in
     rw (two_brackets here c.if-t-eq-BRACKET.true c.if-t-u.false) at (c.equal_runs_within.ensures used contents)
 
-pub equal_terms_within-equal_symbols-requires-clause-texts : goal.equal_terms_within-equal_symbols-requires-clause-texts
-equal_terms_within-equal_symbols-requires-clause-texts t c = two_texts (two c.requires.1 c.get-t.ensures c.get-u.ensures)
+pub equal_terms_within-equal_symbols_at-requires-clause-inside : goal.equal_terms_within-equal_symbols_at-requires-clause-inside
+equal_terms_within-equal_symbols_at-requires-clause-inside t c = c.requires
 
-pub equal_terms_within-returns-then-equal_symbols : goal.equal_terms_within-returns-then-equal_symbols
+pub equal_terms_within-equal_symbols_at-requires-clause-kinds : goal.equal_terms_within-equal_symbols_at-requires-clause-kinds
+equal_terms_within-equal_symbols_at-requires-clause-kinds t c = (
+  ap (λ w. w.kind) (sym c.get-t.ensures) ∙ c.if-t-u.false ∙ ap (λ w. w.kind) c.get-u.ensures,
+  λ e. c.if-t-eq-BRACKET.false (ap (λ w. w.kind) c.get-t.ensures ∙ e),
+)
+
+pub equal_terms_within-returns-then-equal_symbols_at : goal.equal_terms_within-returns-then-equal_symbols_at
 unfolding Tells
-equal_terms_within-returns-then-equal_symbols t c used lies =
-    let symbols = two_symbols (two lies c.get-t.ensures c.get-u.ensures) c.if-t-u.false c.if-t-eq-BRACKET.false in
-    (sym (c.equal_symbols.ensures ∙ symbols) ∙ c.if-equal_symbols.true, omega arith)
+equal_terms_within-returns-then-equal_symbols_at t c used lies = (sym (c.equal_symbols_at.ensures used lies) ∙ c.if-equal_symbols_at.true, omega arith)
 
 pub equal_terms_within-returns : goal.equal_terms_within-returns
 unfolding Tells
-equal_terms_within-returns t c used lies =
-    let symbols = two_symbols (two lies c.get-t.ensures c.get-u.ensures) c.if-t-u.false c.if-t-eq-BRACKET.false in
-    (sym (c.equal_symbols.ensures ∙ symbols) ∙ c.if-equal_symbols.false, omega arith)
+equal_terms_within-returns t c used lies = (sym (c.equal_symbols_at.ensures used lies) ∙ c.if-equal_symbols_at.false, omega arith)
