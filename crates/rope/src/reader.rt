@@ -53,10 +53,9 @@ impl Reader {
         ensures kept { (self.new.whole ≡ self.old.whole) × (self.new.done ≡ self.old.done) }
         ensures run { IfSome result (λ r. RunIn nodes.now (rest_of self.old.ahead) (rest_of self.new.ahead) (as_run r)) }
     {
-        // The piece stands by itself here, so that the compiler need not write it beside the stack at each step.
+        // The piece and the fuel stand by themselves here, so that they need not be written beside the stack at each step.
         let mut at = self.ahead.at;
-        while self.fuel > 0 {
-            self.fuel -= 1;
+        for fuel in (0..self.fuel).rev() {
             let n = words::get::<Node>(nodes, at.node);
             if n.b <= at.skip {
                 at.skip -= n.b;
@@ -66,6 +65,7 @@ impl Reader {
             let here = n.b - at.skip;
             if n.kind == words::CONS {
                 self.ahead.at = at;
+                self.fuel = fuel;
                 return Some(Run {
                     start: n.a + at.skip,
                     len: at.left.min(here),
