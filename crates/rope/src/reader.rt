@@ -87,6 +87,7 @@ impl Reader {
             at.node = n.a;
             at.left = here;
         }
+        self.fuel = 0;
         None
     }
 

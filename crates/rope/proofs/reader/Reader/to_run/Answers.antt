@@ -1,3 +1,4 @@
+-- A step on to the right, into the left, or past a full stack leaves the first terms of those before it; each is one law of pieces.
 use Rattle.std.proofs.Common.{arith, refl}
 use Rattle.rope.specs.PiecesLaws.{goes_here, goes_on, goes_small, goes_in, goes_split, goes_cut, goes-front, front_fits, front_read}
 use Rattle.rope.proofs.reader.Reader.to_run.Goals as goal
