@@ -11,8 +11,8 @@ ghost use Rattle.equality.specs.Memory.{Says};
 ghost use Rattle.equality.specs.Stores.{Remembers};
 ghost use Rattle.value.specs.Store.{Within, runs_equal};
 ghost use Rattle.words.specs.Records.{as_run};
-ghost use Rattle.term_spec.specs.Words.{Lies};
-ghost use Rattle.term_spec.specs.Term.{term_layout};
+ghost use Rattle.term_spec.specs.Words.{Lies, record_at};
+ghost use Rattle.term_spec.specs.Term.{term_layout, bracket_kind};
 
 use value::store::Store;
 use words::kind::TermKind;
@@ -28,6 +28,22 @@ pub enum Outcome {
     Different(usize),
     Equal(usize),
     Spent,
+}
+
+// Whether terms i and j, of one kind and no brackets, are equal. They are read here once more: what is handed to a call is written to memory first, and
+// where `equal_terms_within` handed on what it has read, Chars would be too.
+fn equal_symbols_at(names: &[u8], terms: &[u32], i: usize, j: usize) -> bool
+    requires inside { (used : ℕ) × TermsIn names.now terms.now i j used }
+    requires kinds { let t = record_at term_layout terms.now i in
+        let u = record_at term_layout terms.now j in
+        (t.kind ≡ u.kind) × (t.kind ≡ bracket_kind → ⊥) }
+    ensures { let text = names.now in
+        let store = terms.now in
+        ((used : ℕ) → TermsIn text store i j used → result ≡ equal_at text store used i j) }
+{
+    let t = words::get::<Term>(terms, i);
+    let u = words::get::<Term>(terms, j);
+    value::equal_symbols(names, t, u)
 }
 
 // Whether terms i and j are equal. Term and run equality call each other: bracket depth falls, so they are at most 512 calls deep.
@@ -54,7 +70,7 @@ fn equal_terms_within(names: &[u8], terms: &[u32], i: usize, j: usize, budget: u
     if t.is(TermKind::Bracket) {
         return equal_runs_within(names, terms, t.contents(), u.contents(), budget);
     }
-    if value::equal_symbols(names, t, u) {
+    if equal_symbols_at(names, terms, i, j) {
         return Outcome::Equal(budget);
     }
     Outcome::Different(budget)

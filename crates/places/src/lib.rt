@@ -42,7 +42,8 @@ pub fn copy_up(places: &mut [u32], from: usize, to: usize, n: usize)
     ensures { let before = places.old in
         places.new ≡ sets before to (take n (drop from before)) }
 {
-    places.copy_within(from..from + n, to);
+    let (low, high) = places.split_at_mut(to);
+    high[0..n].copy_from_slice(&low[from..from + n]);
 }
 
 // Where the terms of a piece stand among those read already, if its node was read so far.

@@ -71,9 +71,10 @@ impl<const WORDS: usize> Stack<WORDS> {
         requires { (length self.old * 2 + 2 ≤ WORDS) × (f.node < limit) × (f.len ≤ limit) }
         ensures { self.new ≡ as_field f ∷ self.old }
     {
-        words::set_word(&mut self.words, self.depth * 2, f.node);
-        words::set_word(&mut self.words, self.depth * 2 + 1, f.len);
-        self.depth += 1;
+        let depth = self.depth;
+        words::set_word(&mut self.words, depth * 2, f.node);
+        words::set_word(&mut self.words, depth * 2 + 1, f.len);
+        self.depth = depth + 1;
     }
 
     pub fn pop(&mut self) -> Option<Field>

@@ -54,17 +54,19 @@ impl Reader {
         ensures kept { (self.new.whole ≡ self.old.whole) × (self.new.done ≡ self.old.done) }
         ensures run { IfSome result (λ r. RunIn nodes.now (rest_of self.old.ahead) (rest_of self.new.ahead) (as_run r)) }
     {
-        while self.fuel > 0 {
-            self.fuel -= 1;
-            let at = self.ahead.at;
+        // The piece and the fuel stand by themselves here, so that they need not be written beside the stack at each step.
+        let mut at = self.ahead.at;
+        for fuel in (0..self.fuel).rev() {
             let n = words::get::<Node>(nodes, at.node);
             if n.b <= at.skip {
-                self.ahead.at.skip -= n.b;
-                self.ahead.at.node = n.c;
+                at.skip -= n.b;
+                at.node = n.c;
                 continue;
             }
             let here = n.b - at.skip;
             if n.is(NodeKind::Cons) {
+                self.ahead.at = at;
+                self.fuel = fuel;
                 return Some(Run {
                     start: n.a + at.skip,
                     len: at.left.min(here),
@@ -72,7 +74,7 @@ impl Reader {
             }
             // Not by `Ahead::enter`, since the stack can be full where the piece goes on in the right.
             if at.left <= here {
-                self.ahead.at.node = n.a;
+                at.node = n.a;
                 continue;
             }
             if self.ahead.later.is_full() {
@@ -83,9 +85,10 @@ impl Reader {
                 node: n.c,
                 len: at.left - here,
             });
-            self.ahead.at.node = n.a;
-            self.ahead.at.left = here;
+            at.node = n.a;
+            at.left = here;
         }
+        self.fuel = 0;
         None
     }
 
