@@ -1,10 +1,6 @@
 -- Each exit is one law of equality.
-<<<<<<< HEAD
-use Rattle.std.proofs.Common.{◌≡◌, List, true, ℕ, ◌+◌, ◌≤◌, arith, rules, refl, sym, ◌∙◌, eqb-true}
+use Rattle.std.proofs.Common.{◌≡◌, List, true, ℕ, ◌+◌, ◌≤◌, arith, rules, refl, ap, sym, ◌∙◌, eqb-true}
 use Rattle.std.proofs.lemmas.Bool.{eqb-false}
-=======
-use Rattle.std.proofs.Common.{◌≡◌, List, true, ℕ, ◌+◌, ◌≤◌, arith, rules, ap, sym, ◌∙◌}
->>>>>>> cbffba3b196e7f958667cd066a9b0dc1d88f4f9d
 use Rattle.value.specs.Equal.{equal_at}
 use Rattle.value.specs.EqualLaws.{depth_inside, runs_lengths, runs_same, runs-all, runs_none}
 use Rattle.term_spec.specs.Words.{record_at}
@@ -13,11 +9,7 @@ use Rattle.words.specs.declared.Term.{Term}
 use Rattle.words.specs.Records.{as_term, as_run}
 use Rattle.equality.specs.Within.{TermsIn, RunsIn, Tells}
 use Rattle.equality.specs.WithinLaws.{tells_different, tells-equal}
-<<<<<<< HEAD
-use Rattle.equality.specs.TwoLaws.{Two, two_differ, two_texts, two_symbols, two_chars, two_chars_apart, two_alike, two_inside, two_less, terms-inside}
-=======
-use Rattle.equality.specs.TwoLaws.{Two, two_differ, two_chars, two_chars_apart, two_brackets, two-contents, two_shallow, terms-inside}
->>>>>>> cbffba3b196e7f958667cd066a9b0dc1d88f4f9d
+use Rattle.equality.specs.TwoLaws.{Two, two_differ, two_chars, two_chars_apart, two_alike, two_inside, two_less, terms-inside}
 use Rattle.equality.specs.TwoLaws.{runs_next}
 use Rattle.equality.proofs.+equal_runs_within_equal_terms_within.Goals as goal
 
@@ -127,27 +119,13 @@ equal_terms_within-equal_symbols_at-requires-clause-inside t c = c.requires
 pub equal_terms_within-equal_symbols_at-requires-clause-kinds : goal.equal_terms_within-equal_symbols_at-requires-clause-kinds
 equal_terms_within-equal_symbols_at-requires-clause-kinds t c = (
   ap (λ w. w.kind) (sym c.get-t.ensures) ∙ c.if-t-u.false ∙ ap (λ w. w.kind) c.get-u.ensures,
-  λ e. c.if-t-eq-BRACKET.false (ap (λ w. w.kind) c.get-t.ensures ∙ e),
+  λ e. eqb-false _ _ (sym c.is-2.ensures ∙ c.if-is-2.false) (ap (λ w. w.kind) c.get-t.ensures ∙ e),
 )
 
 pub equal_terms_within-returns-then-equal_symbols_at : goal.equal_terms_within-returns-then-equal_symbols_at
 unfolding Tells
-<<<<<<< HEAD
-equal_terms_within-returns-then-equal_symbols t c used lies =
-    let other = eqb-false _ _ (sym c.is-2.ensures ∙ c.if-is-2.false) in
-    let symbols = two_symbols (two lies c.get-t.ensures c.get-u.ensures) c.if-t-u.false other in
-    (sym (c.equal_symbols.ensures ∙ symbols) ∙ c.if-equal_symbols.true, omega arith)
-
-pub equal_terms_within-returns : goal.equal_terms_within-returns
-unfolding Tells
-equal_terms_within-returns t c used lies =
-    let other = eqb-false _ _ (sym c.is-2.ensures ∙ c.if-is-2.false) in
-    let symbols = two_symbols (two lies c.get-t.ensures c.get-u.ensures) c.if-t-u.false other in
-    (sym (c.equal_symbols.ensures ∙ symbols) ∙ c.if-equal_symbols.false, omega arith)
-=======
 equal_terms_within-returns-then-equal_symbols_at t c used lies = (sym (c.equal_symbols_at.ensures used lies) ∙ c.if-equal_symbols_at.true, omega arith)
 
 pub equal_terms_within-returns : goal.equal_terms_within-returns
 unfolding Tells
 equal_terms_within-returns t c used lies = (sym (c.equal_symbols_at.ensures used lies) ∙ c.if-equal_symbols_at.false, omega arith)
->>>>>>> cbffba3b196e7f958667cd066a9b0dc1d88f4f9d
