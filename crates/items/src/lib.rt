@@ -44,21 +44,6 @@ pub struct Binding {
     pub len: usize,
 }
 
-// The kinds of pattern records that are no terms.
-pub const OPEN: usize = 3;
-
-pub const CLOSE: usize = 4;
-
-pub const S_VARIABLE: usize = 5;
-
-pub const T_VARIABLE: usize = 6;
-
-pub const E_VARIABLE: usize = 7;
-
-pub const CALL: usize = 8;
-
-pub const BLOCK: usize = 9;
-
 // The most records of a pattern, the most brackets of it one in another, and the most names of start and pattern together.
 pub const PATTERN_LIMIT: usize = 256;
 

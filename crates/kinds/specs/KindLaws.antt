@@ -4,6 +4,9 @@ use Rattle.std.proofs.Common.{ap, sym, ◌∙◌, arith}
 use Rattle.std.proofs.Math.ListN.{get_or-eq_default}
 use Rattle.term_spec.specs.Term.{Term, unknown_kind, expression_unknown}
 use Rattle.term_spec.specs.Value.{Value, value_k, value_of, bracketed, takes_table, unknown_column, column, takes_row}
+use Rattle.kinds.specs.declared.VariableKind.{VariableKind}
+use Rattle.kinds.specs.declared.VariableKind.TheVariants.{Symbol, Term as TermVariable, Expression}
+use Rattle.kinds.specs.Variables.{row_of}
 use Rattle.kinds.specs.Kinds.{rows, columns, takes_at, column_k, spec_column_of, takes_term}
 
 -- A term's column is its value's, whatever is below it.
@@ -68,3 +71,9 @@ row-length (suc (suc (suc row))) h = absurd (omega arith)
 pub takes_none : (row k : ℕ) → row < rows → columns ≤ k → false ≡ takes_at row k
 unfolding takes_at
 takes_none row k h q = sym (get_or-eq_default (get_or takes_table row []) false (omega (arith, row-length row h)))
+
+-- A variable's row is one of the table's.
+pub row_low : (v : VariableKind) → row_of v < rows
+row_low Symbol = omega arith
+row_low TermVariable = omega arith
+row_low Expression = omega arith

@@ -17,6 +17,15 @@ pub enum VariableKind {
     Expression = 2,
 }
 
+impl VariableKind {
+    // Its row.
+    fn row(self) -> usize
+        ensures { (result ≡ row_of self) × (result < rows) }
+    {
+        self as usize
+    }
+}
+
 const ROWS: usize = 3;
 
 const COLUMNS: usize = 7;
@@ -57,16 +66,8 @@ fn column_of(t: Term) -> Option<usize>
 pub fn variable_accepts(kind: VariableKind, t: Term) -> bool
     ensures { result ≡ takes_term (row_of kind) (as_term t) }
 {
-    row_accepts(kind as usize, t)
-}
-
-// Whether a variable of a row takes a term.
-pub fn row_accepts(row: usize, t: Term) -> bool
-    requires { row < rows }
-    ensures { result ≡ takes_term row (as_term t) }
-{
     match column_of(t) {
-        Some(column) => takes(row, column),
+        Some(column) => takes(kind.row(), column),
         None => false,
     }
 }

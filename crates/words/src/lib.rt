@@ -76,26 +76,8 @@ pub const LIMIT: usize = 65536;
 // The most runs of a list.
 pub const RUN_LIST_LIMIT: usize = 64;
 
-// The kinds of terms.
-pub const CHAR: usize = 0;
-
-pub const IDENTIFIER: usize = 1;
-
-pub const NUMBER: usize = 2;
-
-pub const BRACKET: usize = 3;
-
-pub const UNKNOWN: usize = 4;
-
 // The last of what an unknown may stand for: a symbol (0), a term (1), an expression (2).
 pub const EXPRESSION: usize = 2;
-
-// The kinds of nodes.
-pub const NIL: usize = 0;
-
-pub const CONS: usize = 1;
-
-pub const CONCAT: usize = 2;
 
 // The widths of a term record, of a node record and of a run, in words.
 pub const TERM_WIDTH: usize = 5;
