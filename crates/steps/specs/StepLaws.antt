@@ -346,6 +346,10 @@ module _ (names w : List ℕ) (used : ℕ) (t : Item) (x : ℕ) (last : Bool) (r
         rw q (one_refused names w used j x last r st env u at inside some p takes e)
 
     module _ (e : b ≡ true) where
+      single_taken : turn_in names w used (coded names t x) last (r ∷ st) env
+          ≡ turn_bind (runs names (decode term_layout used w)) x (record { start = r.start; len = 1 }) (back_of 1 r ∷ st) env (dec_lt x (length env))
+      single_taken = let (j, p, q) = coded_single names t x low high in rw q (one_taken names w used j x last r st env u at inside some p takes e)
+
       pub single_new : length env ≤ x
           → next (back_of 1 r ∷ st) (env ++ (record { start = r.start; len = 1 } ∷ []))
           ≡ turn_in names w used (coded names t x) last (r ∷ st) env
@@ -353,6 +357,13 @@ module _ (names w : List ℕ) (used : ℕ) (t : Item) (x : ℕ) (last : Bool) (r
 
       module _ (v : Run) (known : x < length env) (entry : v ≡ get_or env x no_run) {c : Bool}
           (same : c ≡ spec_equal_runs names w used v.start v.len r.start 1) where
+        single_known : turn_in names w used (coded names t x) last (r ∷ st) env
+            ≡ turn_if (sames? (cells_in names w used v) (cells_in names w used (record { start = r.start; len = 1 })))
+            (next (back_of 1 r ∷ st) env)
+        single_known =
+            let (j, p, q) = coded_single names t x low high in
+            rw q (one_known names w used j x last r st env u at inside some p takes e v known entry same)
+
         pub single_differs : c ≡ false → stop ≡ turn_in names w used (coded names t x) last (r ∷ st) env
         single_differs d =
             let (j, p, q) = coded_single names t x low high in
