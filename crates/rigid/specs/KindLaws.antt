@@ -11,7 +11,7 @@ use Rattle.items.specs.Records.{term_of_item}
 use Rattle.steps.specs.State.{back_of, entries_in, Known, renamed, coded}
 use Rattle.rigid.specs.Fit.{opens_to, fits_at, fits_term, Apart, ApartAt}
 use Rattle.rigid.specs.FitLaws.{term_bracket, term_single, term_literal, fit_open, fit_long, fit_differs, fit_equals}
-use Rattle.rigid.specs.FitLaws.{fit_close, fit_call, fit_none, fit_not, fit_one}
+use Rattle.rigid.specs.FitLaws.{fit_close, fit_call, fit_none, fit_not, fit_one, left_end, left_no, left-ends}
 use Rattle.rigid.specs.SplitLaws.{apart-at}
 
 -- ---- a record at a term ----
@@ -82,6 +82,9 @@ module _ (names w : List ℕ) (used : ℕ) (t : Item) (x m : ℕ) (binds : List 
       one_takes e = fit_one names w used t x m binds r p low other inside some refl e
 
 pub ruleset record_kinds = (ends_by_close, ends_by_call, one_none, one_not, one_takes)
+
+-- the exits of a run
+pub ruleset run_exits = (left_end, left_no, left-ends)
 
 -- ---- a first record that cannot fit ----
 
