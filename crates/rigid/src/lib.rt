@@ -187,7 +187,6 @@ fn next_begin(terms: &[u32], t: Item, from: usize, end: usize) -> usize
 }
 
 // Passes over splits from j on where the record p that comes after the e-variable cannot fit.
-#[tactic(auto, using(crate::specs::KindLaws::apart_by))]
 fn skip_apart(given: &Given, p: usize, s: State, j: usize) -> usize
     requires { Within given.now.store (left_of s) × (j ≤ s.len) }
     ensures { let apart = ApartAt given.now.store.terms.now given.now.pattern.now p in
