@@ -1,34 +1,17 @@
 -- What a record of the run does by its kind, one law for each case of the code's tests of kinds.
-use Rattle.std.specs.Prelude.{◌≡◌, List, ◌∷◌, Bool, true, false, ℕ, zero, ◌+◌, ◌-◌, ◌/◌, ◌<◌, ◌≤◌, eqb, length, get_or}
+use Rattle.std.specs.Prelude.{◌≡◌, List, ◌∷◌, Bool, true, false, ℕ, zero, ◌+◌, ◌<◌, ◌≤◌, eqb, get_or}
 use Rattle.std.proofs.Common.{sym, arith, refl}
 use Rattle.term_spec.specs.Words.{decode, record_at}
 use Rattle.term_spec.specs.Term.{Run, no_run, term_layout, bracket_kind}
 use Rattle.match_spec.specs.Element.{Element, many, canon_e}
-use Rattle.match_spec.specs.Pattern.{Item, item_layout, element, element_k, open_kind, close_kind, symbol_variable_kind, term_variable_kind, expression_variable_kind}
+use Rattle.match_spec.specs.Pattern.{Item, element, element_k, open_kind, close_kind, symbol_variable_kind, term_variable_kind, expression_variable_kind}
 use Rattle.value.specs.Equal.{spec_equal_symbols, spec_equal_runs}
 use Rattle.kinds.specs.Kinds.{takes_term}
 use Rattle.items.specs.Records.{term_of_item}
 use Rattle.steps.specs.State.{back_of, entries_in, Known, renamed, coded}
-use Rattle.rigid.specs.Fit.{opens_to, skips_to, fits_at, fits_term, Apart, ApartAt}
-use Rattle.rigid.specs.FitLaws.{skips_open, skips_close, skips_other, term_bracket, term_single, term_literal, fit_open, fit_long, fit_differs, fit_equals}
-use Rattle.rigid.specs.FitLaws.{fit_close, fit_call, fit_none, fit_not, fit_one}
-use Rattle.rigid.specs.SplitLaws.{apart-at}
-
--- ---- brackets that are passed over ----
-
-pub skips_by_open : {k : ℕ} (d : ℕ) → open_kind ≡ k → skips_to k d ≡ d + 1
-skips_by_open d e = sym (skips_open _ d (sym e))
-
-pub skips_by_close : {k : ℕ} (d : ℕ) → close_kind ≡ k → skips_to k d ≡ d - 1
-skips_by_close d e = sym (skips_close _ d (sym e))
-
-pub skips_before : {k : ℕ} (d : ℕ) → k < open_kind → skips_to k d ≡ d
-skips_before d h = sym (skips_other _ d (λ e. omega arith) (λ e. omega arith))
-
-pub skips_after : {k : ℕ} (d : ℕ) → close_kind < k → skips_to k d ≡ d
-skips_after d h = sym (skips_other _ d (λ e. omega arith) (λ e. omega arith))
-
-pub ruleset skips_kinds = (skips_by_open, skips_by_close, skips_before, skips_after)
+use Rattle.rigid.specs.Fit.{opens_to, fits_at, fits_term}
+use Rattle.rigid.specs.FitLaws.{term_bracket, term_single, term_literal, fit_open, fit_long, fit_differs, fit_equals}
+use Rattle.rigid.specs.FitLaws.{fit_close, fit_call, fit_none, fit_not, fit_one, left_end, left_no, left-ends}
 
 -- ---- a record at a term ----
 
@@ -99,8 +82,5 @@ module _ (names w : List ℕ) (used : ℕ) (t : Item) (x m : ℕ) (binds : List 
 
 pub ruleset record_kinds = (ends_by_close, ends_by_call, one_none, one_not, one_takes)
 
--- ---- a first record that cannot fit ----
-
-pub apart_by : (w pattern : List ℕ) (p i : ℕ) {t : Item} → t ≡ record_at item_layout pattern p → p < length pattern / 4 → t.kind < close_kind
-    → Apart t (record_at term_layout w i) → ApartAt w pattern p i
-apart_by w pattern p i e h l a = apart-at w pattern p i _ e h l a
+-- the exits of a run
+pub ruleset run_exits = (left_end, left_no, left-ends)

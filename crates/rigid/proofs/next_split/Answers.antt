@@ -1,17 +1,7 @@
 -- `rigid::next_split`: the splits passed over fail, those that `skip_apart` leaves out too, and the one found fits.
-use Rattle.std.proofs.Common.{◌∙◌, arith}
-use Rattle.rigid.specs.SplitLaws.{passed_apart, at_split, passed_start, passed-one, first_found, first_past}
+use Rattle.std.proofs.Common.{◌∙◌}
+use Rattle.rigid.specs.SplitLaws.{passed_apart, at_split, passed-one, first_found}
 use Rattle.rigid.proofs.next_split.Goals as goal
-
-pub loop-j-init : goal.loop-j-init
-loop-j-init c = record { passed = passed_start c.requires.split; memory = c.requires.ready.2 }
-
-pub rigid_run_matches-requires : goal.rigid_run_matches-requires
-rigid_run_matches-requires c =
-    let a = c.requires.ready in
-    let e = c.pass.ensures in
-    let j = c.skip_apart-j.ensures.1 in
-    record { ready = (rw e (omega (arith, a.0, j)), rw e a.1, c.loop-j.invariant.memory) }
 
 pub returns-then-rigid_run_matches : goal.returns-then-rigid_run_matches
 returns-then-rigid_run_matches c =
@@ -33,6 +23,3 @@ loop-j-preserved c =
       passed = passed-one (passed_apart _ _ _ _ _ _ _ _ _ c.requires.ready.0 c.loop-j.invariant.passed _ n) n.1 (told ∙ c.if-rigid_run_matches.false);
       memory = c.rigid_run_matches.ensures.1;
     }
-
-pub returns : goal.returns
-returns c = let inv = c.loop-j.invariant in (first_past inv.passed (omega (arith, c.loop-j-test.false)), inv.memory)
