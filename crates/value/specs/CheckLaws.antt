@@ -3,6 +3,8 @@ use Rattle.std.specs.Prelude.{◌≡◌, List, [], ◌∷◌, Bool, true, false,
 use Rattle.std.proofs.Math.Path.{refl, ap, sym}
 use Rattle.std.proofs.Common.{◌∙◌, add-one, arith}
 use borrow.Author.Tests.{le-leb, lt-leb, eq-eqb, ne_eqb}
+use Rattle.std.proofs.Math.Decide.{dec_lt}
+use Rattle.std.proofs.lemmas.Bool.{false≢true}
 use Rattle.std.proofs.Math.ListN.{length, drop}
 use Rattle.std.proofs.Math.Seq.{drop-cons, drop-length}
 use Prim.Native.Nat.{ℕ, suc, zero, ◌+◌, ◌/◌, ◌%◌, ◌<◌, ◌≤◌, min}
@@ -161,7 +163,25 @@ module _ (names : List ℕ) (below : List Term) where
     pub term_is_none : unknown_kind < t.kind → term_rule names below t ≡ symbol_rule t.kind names t.a t.b t.c
     term_is_none h = sym (term_none t {r = true} (sym good) refl h) ∙ sym (symbol_none names t.kind t.a t.b t.c (omega arith))
 
-pub ruleset term_kinds = (term_is_uneven, term_is_bracket, term_is_unknown, term_is_symbol, term_is_none)
+    -- a symbol within its rule, and what is none and of no other kind
+    symbol_low : (k : ℕ) → symbol_rule k names t.a t.b t.c ≡ true → k < bracket_kind
+    unfolding symbol_rule
+    symbol_low zero q = omega arith
+    symbol_low (suc zero) q = omega arith
+    symbol_low (suc (suc zero)) q = omega arith
+    symbol_low (suc (suc (suc k))) q = absurd (false≢true q)
+
+    pub term_is_good : symbol_rule t.kind names t.a t.b t.c ≡ true → term_rule names below t ≡ true
+    term_is_good e = term_is_symbol (symbol_low t.kind e) ∙ e
+
+    pub term_is_bad : symbol_rule t.kind names t.a t.b t.c ≡ false → (t.kind ≡ bracket_kind → ⊥) → (t.kind ≡ unknown_kind → ⊥) → term_rule names below t ≡ false
+    term_is_bad e b u = go (dec_lt t.kind bracket_kind)
+      where
+        go : Dec (t.kind < bracket_kind) → term_rule names below t ≡ false
+        go (yes h) = term_is_symbol h ∙ e
+        go (no n) = term_is_none (omega arith) ∙ e
+
+pub ruleset term_kinds = (term_is_uneven, term_is_bracket, term_is_unknown, term_is_good, term_is_bad)
 
 -- ---- the terms of a store, from term i on ----
 

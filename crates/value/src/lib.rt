@@ -36,6 +36,7 @@ fn is_scalar(c: usize) -> bool
 }
 
 // The rule of a literal symbol: Char, Identifier or Number.
+#[inline(always)]
 #[tactic(auto, using(crate::specs::CheckLaws::symbol_kinds))]
 pub fn symbol_ok(names: &[u8], t: Term) -> bool
     ensures { result ≡ symbol_rule t.kind names.now t.a t.b t.c }
@@ -177,17 +178,17 @@ fn term_ok(names: &[u8], terms: &[u32], low: &[u8], high: &[u8], i: usize, t: Te
     requires blocks { Blocks terms.now i low.now high.now }
     ensures { result ≡ term_rule names.now (decode term_layout i terms.now) (as_term t) }
 {
-    // Tests and no match, as in `symbol_ok`.
+    // Symbols first, since most terms are; and tests and no match, as in `symbol_ok`.
     if !upper_ok(t) {
         return false;
+    }
+    if symbol_ok(names, t) {
+        return true;
     }
     if t.is(TermKind::Bracket) {
         return bracket_ok(terms, low, high, i, t);
     }
-    if t.is(TermKind::Unknown) {
-        return t.a <= words::EXPRESSION;
-    }
-    symbol_ok(names, t)
+    t.is(TermKind::Unknown) && t.a <= words::EXPRESSION
 }
 
 // The rule of the used terms. The tables are lent with no terms in them; each term that keeps its rule goes into them, so that they
