@@ -2,10 +2,11 @@
 use Rattle.std.specs.Prelude.{◌≡◌, List, ◌∷◌, Bool, true, false, ◌&&◌, T, leb, ltb, eqb, get_or}
 use Rattle.std.proofs.Math.Path.{refl, ap, sym}
 use Rattle.std.proofs.Common.{◌∙◌, inl, inr, add-one}
-use borrow.Author.Tests.{lt-ltb, le-leb, lt-leb, eq-eqb}
+use borrow.Author.Tests.{lt-ltb, le-leb, lt-leb, eq-eqb, ne_eqb}
 use Rattle.std.proofs.Math.ListN.{length, drop}
 use Rattle.std.proofs.Math.Seq.{drop-cons, drop-length}
 use Prim.Native.Nat.{ℕ, suc, zero, ◌+◌, ◌<◌, ◌≤◌, min, max}
+use Rattle.std.proofs.Math.Decide.{ℕ_discrete}
 use native.Mathlib.Omega.{arith}
 use Rattle.term_spec.specs.Term.{limit}
 use Rattle.term_spec.specs.Words.{decode, record_at}
@@ -134,6 +135,23 @@ module _ (used : ℕ) (below : List Node) (n : Node) where
   pub node_none : 2 < n.kind → false ≡ node_rule used below n
   unfolding node_rule
   node_none h = sym (others n.kind h)
+
+  -- what is neither a Cons nor a Concat
+  module _ (cons : n.kind ≡ 1 → ⊥) (concat : n.kind ≡ 2 → ⊥) where
+    pub node_other_low : length below ≡ 0
+        → eqb n.kind 0 && (eqb n.a 0 && (eqb n.b 0 && (eqb n.c 0 && (eqb n.height 0 && eqb n.reach 0)))) ≡ node_rule used below n
+    node_other_low l = go (ℕ_discrete n.kind 0)
+      where
+        go : Dec (n.kind ≡ 0) → eqb n.kind 0 && (eqb n.a 0 && (eqb n.b 0 && (eqb n.c 0 && (eqb n.height 0 && eqb n.reach 0)))) ≡ node_rule used below n
+        go (yes e) = node_nil_low e l
+        go (no z) = ap (◌&& (eqb n.a 0 && (eqb n.b 0 && (eqb n.c 0 && (eqb n.height 0 && eqb n.reach 0))))) (ne_eqb n.kind 0 z) ∙ node_none (omega arith)
+
+    pub node_other_high : (length below ≡ 0 → ⊥) → false ≡ node_rule used below n
+    node_other_high l = go (ℕ_discrete n.kind 0)
+      where
+        go : Dec (n.kind ≡ 0) → false ≡ node_rule used below n
+        go (yes e) = node_nil_high e l
+        go (no z) = node_none (omega arith)
 
 -- ---- the nodes of a store, from node i on ----
 

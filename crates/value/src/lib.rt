@@ -40,13 +40,16 @@ fn is_scalar(c: usize) -> bool
 pub fn symbol_ok(names: &[u8], t: Term) -> bool
     ensures { result ≡ symbol_rule t.kind names.now t.a t.b t.c }
 {
-    match TermKind::try_from(t.kind) {
-        Ok(TermKind::Char) => is_scalar(t.a) && t.b == 0 && t.c == 0,
-        Ok(TermKind::Identifier) => text::text_ok(names, TextKind::Identifier, t.a, t.b)
-            && t.c == 0,
-        Ok(TermKind::Number) => text::text_ok(names, TextKind::Number, t.a, t.b) && t.c == 0,
-        _ => false,
+    // Chars are the most frequent terms, and a table of jumps for all kinds would cost each of them more than its rule.
+    if t.is(TermKind::Char) {
+        return is_scalar(t.a) && t.b == 0 && t.c == 0;
     }
+    let kind = match TermKind::try_from(t.kind) {
+        Ok(TermKind::Identifier) => TextKind::Identifier,
+        Ok(TermKind::Number) => TextKind::Number,
+        _ => return false,
+    };
+    text::text_ok(names, kind, t.a, t.b) && t.c == 0
 }
 
 // A term's own depth: a bracket's is its c, no other term has one.
@@ -174,12 +177,17 @@ fn term_ok(names: &[u8], terms: &[u32], low: &[u8], high: &[u8], i: usize, t: Te
     requires blocks { Blocks terms.now i low.now high.now }
     ensures { result ≡ term_rule names.now (decode term_layout i terms.now) (as_term t) }
 {
-    upper_ok(t)
-        && match TermKind::try_from(t.kind) {
-            Ok(TermKind::Bracket) => bracket_ok(terms, low, high, i, t),
-            Ok(TermKind::Unknown) => t.a <= words::EXPRESSION,
-            _ => symbol_ok(names, t),
-        }
+    // Tests and no match, as in `symbol_ok`.
+    if !upper_ok(t) {
+        return false;
+    }
+    if t.is(TermKind::Bracket) {
+        return bracket_ok(terms, low, high, i, t);
+    }
+    if t.is(TermKind::Unknown) {
+        return t.a <= words::EXPRESSION;
+    }
+    symbol_ok(names, t)
 }
 
 // The rule of the used terms. The tables are lent with no terms in them; each term that keeps its rule goes into them, so that they
@@ -240,15 +248,17 @@ pub fn equal_symbols(names: &[u8], t: Term, u: Term) -> bool
     requires kinds { (t.kind ≡ u.kind) × (t.kind ≡ bracket_kind → ⊥) }
     ensures { result ≡ spec_equal_symbols names.now (as_term t) (as_term u) }
 {
-    match TermKind::try_from(t.kind) {
-        Ok(TermKind::Char) => t.a == u.a,
-        Ok(TermKind::Identifier) => text::same_identifiers(
-            &names[t.a..t.a + t.b],
-            &names[u.a..u.a + u.b],
-        ),
-        Ok(TermKind::Number) => text::same_numbers(&names[t.a..t.a + t.b], &names[u.a..u.a + u.b]),
-        _ => t == u,
+    // Tests and no match, as in `symbol_ok`.
+    if t.is(TermKind::Char) {
+        return t.a == u.a;
     }
+    if t.is(TermKind::Identifier) {
+        return text::same_identifiers(&names[t.a..t.a + t.b], &names[u.a..u.a + u.b]);
+    }
+    if t.is(TermKind::Number) {
+        return text::same_numbers(&names[t.a..t.a + t.b], &names[u.a..u.a + u.b]);
+    }
+    t.a == u.a && t.b == u.b && t.c == u.c && t.d == u.d
 }
 
 // Whether a literal of a pattern (kinds 0 to 2) and a term are equal. An unknown or a bracket is none.
