@@ -125,13 +125,11 @@ fn same_name(names: &[u8], x: Name, y: Name) -> bool
     requires { (x.offset + x.size ≤ length names.now) × (y.offset + y.size ≤ length names.now) }
     ensures { result ≡ same_name (as_name names.now x) (as_name names.now y) }
 {
-    if x.kind != y.kind {
-        return false;
-    }
-    text::same_identifiers(
-        &names[x.offset..x.offset + x.size],
-        &names[y.offset..y.offset + y.size],
-    )
+    x.kind == y.kind
+        && text::same_identifiers(
+            &names[x.offset..x.offset + x.size],
+            &names[y.offset..y.offset + y.size],
+        )
 }
 
 // The place of a name among the first `count` bindings, if it is there.
@@ -197,10 +195,7 @@ pub fn bindings_ok(names: &[u8], bindings: &[u32]) -> bool
     if bindings.len() / items::BINDING_WIDTH <= items::NAME_LIMIT {
         return few_bindings_ok(names, bindings);
     }
-    if !each_binding_ok(names, bindings) {
-        return false;
-    }
-    apart::names_apart(names, bindings)
+    each_binding_ok(names, bindings) && apart::names_apart(names, bindings)
 }
 
 // ---- the numbers of names ----
