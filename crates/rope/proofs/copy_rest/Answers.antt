@@ -1,6 +1,8 @@
-use Rattle.std.proofs.Common.{◌+◌, ◌≤◌, arith, refl, ◌∙◌}
+-- Each part that is read is copied after the parts before it. The last part ends at the end of the node.
+use Rattle.std.proofs.Common.{◌≡◌, ℕ, ◌+◌, ◌≤◌, arith, refl, subst, ◌∙◌}
+use Rattle.places.specs.Places.{part}
 use Rattle.rope.specs.PartLaws.{part_low}
-use Rattle.rope.specs.AtLaws.{task_store, task_reaches, terms_same, filled_none, filled_next, filled_source}
+use Rattle.rope.specs.AtLaws.{Filled, task_store, task_reaches, terms_same, filled_none, filled_next, filled-all, filled_source}
 use Rattle.rope.proofs.copy_rest.Goals as goal
 
 pub loop-done-init : goal.loop-done-init
@@ -23,12 +25,23 @@ copy_places-requires-clause-source g c =
 pub loop-done-preserved : goal.loop-done-preserved
 loop-done-preserved g c =
     let inside : c.loop-done.done + c.min-k.result ≤ c.args.whole.len = omega (arith, c.min-k.ensures) in
+    let full : c.min-k.result ≡ part = omega (arith, c.min-k.ensures) in
     record {
       size = c.read_places.ensures.1 ∙ c.loop-done.invariant.size;
-      within = inside;
+      within = omega arith;
       filled = λ used asked.
           let so_far = c.loop-done.invariant.filled used asked in
           let kept = filled_source (g.S.Source.terms c.args.source) _ _ (g.met.S.Source.kept c.args.source) so_far in
           let same = terms_same _ _ (g.S.Source.used c.args.source) (omega (arith, asked.there, kept.0)) kept.0 kept.1 in
-          filled_next so_far _ inside _ _ c.read_places.ensures (g.S.Source.terms c.args.source c.loop-done.words) same _ refl c.copy_places.ensures;
+          subst (λ k. Filled (g.S.Source.terms c.args.source c.args.words.now) (g.S.Source.used c.args.source) c.args.nodes.now used c.args.whole.node
+          c.args.whole.len (g.S.Source.base c.args.source) c.args.words.now c.args.from c.copy_places.new.words (c.loop-done.done + k)) full
+          (filled_next so_far _ inside _ _ c.read_places.ensures (g.S.Source.terms c.args.source c.loop-done.words) same _ refl c.copy_places.ensures);
     }
+
+pub returns-2 : goal.returns-2
+returns-2 g c used asked =
+    let inside : c.loop-done.done + c.min-k.result ≤ c.args.whole.len = omega (arith, c.min-k.ensures) in
+    let so_far = c.loop-done.invariant.filled used asked in
+    let kept = filled_source (g.S.Source.terms c.args.source) _ _ (g.met.S.Source.kept c.args.source) so_far in
+    let same = terms_same _ _ (g.S.Source.used c.args.source) (omega (arith, asked.there, kept.0)) kept.0 kept.1 in
+    filled-all (filled_next so_far _ inside _ _ c.read_places.ensures (g.S.Source.terms c.args.source c.loop-done.words) same _ refl c.copy_places.ensures) (omega (arith, c.min-k.ensures))

@@ -1,5 +1,5 @@
 -- After each turn the terms from `from` on and before `done` are there.
-use Rattle.std.proofs.Common.{◌≡◌, ℕ, ◌-◌, ◌≤◌, length}
+use Rattle.std.proofs.Common.{◌≡◌, ℕ, ◌≤◌, length}
 use Rattle.places.specs.Places.{part}
 use Rattle.rope.specs.CopiedLaws.{Task}
 use Rattle.rope.specs.AtLaws.{Filled}
@@ -14,6 +14,3 @@ invariant-loop-done g l = record {
       → Filled (g.S.Source.terms l.source l.initial.words) (g.S.Source.used l.source) l.nodes used l.whole.node l.whole.len (g.S.Source.base l.source) l.initial.words
       l.from l.words l.done;
 }
-
-abbrev pub decreases-loop-done : goal.decreases-loop-done
-decreases-loop-done g l = l.whole.len - l.done
