@@ -45,7 +45,6 @@ loop-done-preserved c =
     let full : c.min-k.result ≡ part = omega (arith, c.min-k.ensures) in
     let sizes = c.loop-done.invariant.sizes in
     record {
-      within = omega arith;
       sizes = (c.read_places.ensures.1 ∙ sizes.0, c.read_places-in-loop-done.ensures.1 ∙ sizes.1);
       alike = λ names w over used asked.
           c.loop-done.invariant.alike names w over used asked
