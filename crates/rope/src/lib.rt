@@ -97,15 +97,13 @@ fn equal_parts(nodes: &[u32], known: &[u16], f: usize, g: usize, from: usize, n:
 {
     let mut first = [0u32; places::PART];
     let mut second = [0u32; places::PART];
-    let mut done = from;
-    while done < n {
+    for done in (from..n).step_by(places::PART) {
         let k = places::PART.min(n - done);
         places::read_places(nodes, f, done, k, &mut first);
         places::read_places(nodes, g, done, k, &mut second);
         if !equal_at(known, &first, &second, k) {
             return false;
         }
-        done += k;
     }
     true
 }
@@ -177,12 +175,10 @@ fn copy_rest<S: Source>(source: S, nodes: &[u32], whole: Field, from: usize, wor
         CopiedPart (S.terms source before) (S.used source) nodes.now whole.node whole.len (S.base source) from whole.len before words.new }
 {
     let mut list = [0u32; places::PART];
-    let mut done = from;
-    while done < whole.len {
+    for done in (from..whole.len).step_by(places::PART) {
         let k = places::PART.min(whole.len - done);
         places::read_places(nodes, whole.node, done, k, &mut list);
         source::copy_places(source, &list, k, words, done);
-        done += k;
     }
 }
 
