@@ -44,11 +44,14 @@ module _ (w : List ℕ) where
 
   module _ (terms : ℕ) where
     -- what is left of the rule at run i: true at the end, false at a run that ends later, and the rule of the others at one that does not
-    pub inside-all : (i : ℕ) → i ≡ length w / run_layout.width → runs_rule terms (drop i (records run_layout w)) ≡ runs_rule terms (records run_layout w) → true ≡ runs_rule terms (records run_layout w)
+    pub inside-all : (i : ℕ) → i ≡ length w / run_layout.width
+        → runs_rule terms (drop i (records run_layout w)) ≡ runs_rule terms (records run_layout w)
+        → true ≡ runs_rule terms (records run_layout w)
     unfolding runs_rule
     inside-all i e h = rw (e, runs_done) at h
 
-    module _ (i : ℕ) {r : Run} (lt : i < length w / run_layout.width) (e : r ≡ record_at run_layout w i) (h : runs_rule terms (drop i (records run_layout w)) ≡ runs_rule terms (records run_layout w)) where
+    module _ (i : ℕ) {r : Run} (lt : i < length w / run_layout.width) (e : r ≡ record_at run_layout w i)
+        (h : runs_rule terms (drop i (records run_layout w)) ≡ runs_rule terms (records run_layout w)) where
       pub inside_not : terms < r.start + r.len → false ≡ runs_rule terms (records run_layout w)
       unfolding runs_rule run_rule
       inside_not k = rw (runs_next i lt e, lt-leb (r.start + r.len) terms k) at h

@@ -1,6 +1,7 @@
 -- Laws of reading the places of a part of a rope: what holds after each turn, and what a turn keeps.
 use Rattle.std.specs.Prelude.{◌≡◌, refl, List, [], ◌++◌, T, length, get_or, set, take, drop, ℕ, suc, zero, ◌+◌, ◌*◌, ◌-◌, ◌≤◌, ◌<◌, min}
-use Rattle.std.proofs.Common.{ap, ap₂, sym, ◌∙◌, append-nil, inl, inr, length-append, length-drop, take-add, take_at, take_all, drop_at, drop-drop, take-take, get_or-set_same, get_or-set_other, length-take-le, arith}
+use Rattle.std.proofs.Common.{ap, ap₂, sym, ◌∙◌, append-nil, inl, inr, length-append, length-drop, take-add, take_at, take_all, drop_at}
+use Rattle.std.proofs.Common.{drop-drop, take-take, get_or-set_same, get_or-set_other, length-take-le, arith}
 use Rattle.std.proofs.lemmas.List.Edits.{sets, sets-eq}
 use Rattle.std.proofs.Math.Seq.{drop-append-add, set_out}
 use Rattle.std.proofs.Math.Decide.{dec_lt, ℕ_discrete}

@@ -321,7 +321,8 @@ module _ (s : Store) (w : List ℕ) {b : Bool} (ev : b ≡ whole run_layout w &&
       → leaves a (store_of s.names s.term_words s.terms_used v u) ≡ step s (call_from_runs w)
   unfolding deed given room fits ask accept changed after_build nodes
   runs_fit z h q k p =
-      left_grown s (call_from_runs w) (spec_from_runs (records run_layout w) (nodes s)) (runs-input z ∙ rw (h, le-leb (total (records run_layout w)) limit (omega (arith, q, k))) refl) refl refl refl refl p
+      let small = le-leb (total (records run_layout w)) limit (omega (arith, q, k)) in
+      left_grown s (call_from_runs w) (spec_from_runs (records run_layout w) (nodes s)) (runs-input z ∙ rw (h, small) refl) refl refl refl refl p
 
   -- what is asked of the stores after the checks
   pub runs-passed : n ≡ 0 → Passed s
