@@ -123,7 +123,12 @@ impl Brackets {
             let letter = if at < same { b'a' } else { b'b' };
             return term(TermKind::Char, usize::from(letter), 0, 0);
         }
-        term(TermKind::Bracket, (level - 1) * 5 + self.start(at), 2, level)
+        term(
+            TermKind::Bracket,
+            (level - 1) * 5 + self.start(at),
+            2,
+            level,
+        )
     }
 }
 
