@@ -12,6 +12,7 @@ use matcher::{Goal, Status, Tally};
 use steps::State;
 use steps::given::Given;
 use words::Run;
+use words::runs::HasRun;
 
 // The start's entries become the first runs of `binds`.
 fn start(bindings: &[u32], binds: &mut [u32])
@@ -21,11 +22,7 @@ fn start(bindings: &[u32], binds: &mut [u32])
 {
     for i in 0..bindings.len() / items::BINDING_WIDTH {
         let b = words::get::<Binding>(bindings, i);
-        let run = Run {
-            start: b.start,
-            len: b.len,
-        };
-        words::put(binds, i, run);
+        words::put(binds, i, b.run());
     }
 }
 
@@ -85,14 +82,9 @@ fn walk_keeping<const N: usize>(
 fn variables(pattern: &[u32]) -> usize
     ensures { result ≤ length pattern.now }
 {
-    let mut count = 0;
-    for i in 0..pattern.len() / items::ITEM_WIDTH {
-        let t = words::get::<Item>(pattern, i);
-        if pattern::is_variable(t.kind) {
-            count += 1;
-        }
-    }
-    count
+    (0..pattern.len() / items::ITEM_WIDTH)
+        .filter(|&i| pattern::is_variable(words::get::<Item>(pattern, i).kind))
+        .count()
 }
 
 // The walk with as much kept as it may need: in larger stores nothing where no variable is met twice, since then nothing is compared.
