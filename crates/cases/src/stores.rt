@@ -2,7 +2,7 @@
 use crate::fault::Fault;
 use crate::names::Names;
 use crate::records::Records;
-use crate::vocabulary::{BINDING_WIDTH, PATTERN_WIDTH, Region, Verb};
+use crate::vocabulary::{Region, Verb};
 use crate::wrong::Wrong;
 use std::alloc::{AllocError, Global};
 
@@ -11,9 +11,9 @@ const TERM_WORDS: usize = 1028 * words::TERM_WIDTH;
 
 const NODE_WORDS: usize = 100 * words::NODE_WIDTH;
 
-const PATTERN_WORDS: usize = 260 * PATTERN_WIDTH;
+const PATTERN_WORDS: usize = 260 * items::ITEM_WIDTH;
 
-const START_WORDS: usize = 68 * BINDING_WIDTH;
+const START_WORDS: usize = 68 * items::BINDING_WIDTH;
 
 const SLOT_WORDS: usize = 128;
 

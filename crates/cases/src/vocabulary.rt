@@ -72,11 +72,6 @@ impl Call {
     }
 }
 
-// The words of a pattern record and of a starting binding.
-pub const PATTERN_WIDTH: usize = 4;
-
-pub const BINDING_WIDTH: usize = 5;
-
 // What is lent: regions of words, and the names, which are bytes. A line may name a region by its number.
 #[derive(Clone, Copy, PartialEq, Eq)]
 pub enum Region {
@@ -126,8 +121,8 @@ impl Region {
         match self {
             Region::Terms | Region::Work | Region::Shown => words::TERM_WIDTH,
             Region::Nodes => words::NODE_WIDTH,
-            Region::Pattern => PATTERN_WIDTH,
-            Region::Start => BINDING_WIDTH,
+            Region::Pattern => items::ITEM_WIDTH,
+            Region::Start => items::BINDING_WIDTH,
             Region::Slots | Region::Names => 1,
         }
     }
