@@ -57,7 +57,10 @@ fn emit(binds: &[u32], g: Goal, slots: &mut [u32], f: Tally) -> Tally
     }
     let width = g.entries * words::RUN_WIDTH;
     let base = count * width;
-    slots[base..base + width].copy_from_slice(&binds[..width]);
+    // A loop, and not copy_from_slice: the archive for C is to need nothing but memset from outside.
+    for i in 0..width {
+        slots[base + i] = binds[i];
+    }
     let stop = if g.head { Status::Done } else { Status::Going };
     Tally {
         stop,

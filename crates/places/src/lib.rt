@@ -42,8 +42,10 @@ pub fn copy_up(places: &mut [u32], from: usize, to: usize, n: usize)
     ensures { let before = places.old in
         places.new ≡ sets before to (take n (drop from before)) }
 {
-    let (low, high) = places.split_at_mut(to);
-    high[0..n].copy_from_slice(&low[from..from + n]);
+    // A loop, and not copy_from_slice: the archive for C is to need nothing but memset from outside.
+    for i in 0..n {
+        places[to + i] = places[from + i];
+    }
 }
 
 // Where the terms of a piece stand among those read already, if its node was read so far.

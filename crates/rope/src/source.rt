@@ -12,7 +12,10 @@ fn copy_words(source: &[u32], target: &mut [u32], from: usize, to: usize, n: usi
     requires { (from + n ≤ length source.now) × (to + n ≤ length target.old) }
     ensures { target.new ≡ sets target.old to (take n (drop from source.now)) }
 {
-    target[to..to + n].copy_from_slice(&source[from..from + n]);
+    // A loop, and not copy_from_slice: the archive for C is to need nothing but memset from outside.
+    for i in 0..n {
+        target[to + i] = source[from + i];
+    }
 }
 
 // Where terms are copied from. What a copy to another slice and one within a slice need to know is the same by these laws.
