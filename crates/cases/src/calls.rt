@@ -22,7 +22,7 @@ pub enum Request {
     StartsWith(Field, Field),
     Equal(Field, Field),
     Flatten(Field),
-    FlatPart(Result<Flat, Refusal>),
+    FlatPart(Result<Flat, usize>),
     Listing(Field),
     First(Field),
     CompareRuns(Run, Run),
@@ -61,12 +61,12 @@ impl Request {
     }
 }
 
-// An answer of flatten, as a line writes it. No refusal shows anything, so one stands for all.
-fn flat_from_values(kind: usize, start: usize, len: usize) -> Result<Flat, Refusal> {
+// An answer of flatten, as a line writes it: a refusal is any number.
+fn flat_from_values(kind: usize, start: usize, len: usize) -> Result<Flat, usize> {
     match Answer::from_number(kind) {
         Some(Answer::Store) => Ok(Flat::InStore(Run { start, len })),
         Some(Answer::Work) => Ok(Flat::InWork(start)),
-        _ => Err(Refusal::WorkShort),
+        _ => Err(start),
     }
 }
 
@@ -166,7 +166,7 @@ impl Stores {
     }
 
     // flat_part of an answer that did not come of its slices; the work buffer has two terms' words.
-    fn flat_part(&mut self, flat: Result<Flat, Refusal>) -> Given {
+    fn flat_part(&mut self, flat: Result<Flat, usize>) -> Given {
         let work = [9; 2 * words::TERM_WIDTH];
         self.shown
             .show(view_read::flat_part(self.terms.lent(), &work, flat));

@@ -1,9 +1,28 @@
 -- What a call tells of an answer: 01's number, and each out parameter after it, given the value that it had before.
 use Rattle.std.proofs.Math.Option.{Option, some, none}
-use Rattle.std.specs.Prelude.{Bool, true, false, ℕ}
+use Rattle.std.specs.Prelude.{Result, Bool, true, false, ℕ}
 use Rattle.view_spec.specs.Node.{Field}
 use Rattle.calls_spec.specs.Step.{Answer, refused, built, truth, in_store, in_work, listed, answer_number}
-use Rattle.equality.specs.Compare.{Comparison, same, different, refused_runs}
+use Rattle.equality.specs.Compare.{Comparison, same, different, found, refused_runs}
+use Rattle.view.specs.declared.Field.{Field as CodeField}
+use Rattle.view.specs.Check.{as_field}
+use Rattle.listing.specs.declared.Matched.{Matched}
+use Rattle.listing.specs.Match.{brought}
+use Rattle.outputs.specs.Numbers.{told_by}
+
+-- ---- what a call answers, of any refusals, by the numbers that they are told by ----
+
+abbrev pub answer_by : {E : Type 0} → (E → ℕ) → Result CodeField E → Answer
+answer_by number a = told_by (λ f. built (as_field f)) refused number a
+
+abbrev pub verdict_by : {E : Type 0} → (E → ℕ) → Result Bool E → Answer
+verdict_by number v = told_by truth refused number v
+
+abbrev pub matched_by : {E : Type 0} → (E → ℕ) → Result Matched E → Answer
+matched_by number m = told_by brought refused number m
+
+abbrev pub compared_by : {E : Type 0} → (E → ℕ) → Result Bool E → Comparison
+compared_by number v = told_by found refused_runs number v
 
 -- Yes as 1, no as 0.
 unfoldable pub bit : Bool → ℕ

@@ -1,7 +1,12 @@
 -- What a call on sheets tells of its answer: 01's number, and each out parameter after it, given the value that it had before.
-use Rattle.std.specs.Prelude.{List, ℕ}
+use Rattle.std.specs.Prelude.{Result, List, ℕ}
 use Rattle.sheet_spec.specs.Sheet.{spec_names_start}
 use Rattle.sheet_spec.specs.Job.{SheetAnswer, refused_sheet, wrote, counted, AfterSheet}
+use Rattle.outputs.specs.Numbers.{told_by}
+
+-- The answer of a call that writes a text, of any refusals, by the numbers that they are told by.
+abbrev pub written_by : {E : Type 0} → (E → ℕ) → Result ℕ E → SheetAnswer
+written_by number w = told_by wrote refused_sheet number w
 
 -- The bytes written.
 unfoldable pub written_out : SheetAnswer → ℕ → ℕ × ℕ

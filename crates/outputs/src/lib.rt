@@ -2,25 +2,50 @@
 // left alone by a refusal.
 #![tactic(auto)]
 
-ghost use Rattle.std.specs.Prelude.{◌≡◌};
+ghost use Rattle.std.specs.Prelude.{◌≡◌, ℕ};
 ghost use Rattle.sheet_spec.specs.Sheet.{counts_at, spec_read_sheet};
 ghost use Rattle.sheet_spec.specs.Job.{read_into};
-ghost use Rattle.sheet_write.specs.Write.{written_of};
-ghost use Rattle.equality.specs.Compare.{answer_of as comparedOf};
-ghost use Rattle.view.specs.Check.{answer_of};
-ghost use Rattle.view_read.specs.Read.{verdict_of, flat_of};
-ghost use Rattle.listing.specs.Match.{matched_of};
+ghost use Rattle.words.specs.Refusals.{spec_number};
+ghost use Rattle.view_read.specs.Read.{flat_by};
+ghost use Rattle.outputs.specs.Outputs.{answer_by, verdict_by, matched_by, compared_by};
 ghost use Rattle.outputs.specs.Outputs.{field_out, truth_out, flat_out, list_out, compared_out};
-ghost use Rattle.outputs.specs.SheetOutputs.{written_out, read_outs, after_read};
+ghost use Rattle.outputs.specs.SheetOutputs.{written_by, written_out, read_outs, after_read};
 
 use listing::Matched;
 use view::Field;
 use view_read::Flat;
 use words::refusal::Refusal;
 
+// What a refusal is told by: its number.
+pub trait HasNumber: Copy {
+    ghost number_of: { Self → ℕ };
+
+    fn number(self) -> usize
+        ensures { result ≡ number_of self };
+}
+
+impl HasNumber for Refusal {
+    ghost number_of = { spec_number };
+
+    fn number(self) -> usize {
+        Refusal::number(self)
+    }
+}
+
+// A caller's own number is told as it is.
+impl HasNumber for usize {
+    ghost number_of = { λ n. n };
+
+    fn number(self) -> usize {
+        self
+    }
+}
+
+// ---- calls on fields ----
+
 // Of a call that hands back a field.
-pub fn put_field(a: Result<Field, Refusal>, node: &mut usize, len: &mut usize) -> usize
-    ensures { let told = field_out (answer_of a) node.old len.old in
+pub fn put_field<R: HasNumber>(a: Result<Field, R>, node: &mut usize, len: &mut usize) -> usize
+    ensures { let told = field_out (answer_by R.number_of a) node.old len.old in
         (result, node.new, len.new) ≡ told }
 {
     match a {
@@ -34,9 +59,9 @@ pub fn put_field(a: Result<Field, Refusal>, node: &mut usize, len: &mut usize) -
 }
 
 // Of a call that compares fields or runs.
-pub fn put_truth(v: Result<bool, Refusal>, yes: &mut usize) -> usize
-    ensures fields { (result, yes.new) ≡ truth_out (verdict_of v) yes.old }
-    ensures runs { (result, yes.new) ≡ compared_out (comparedOf v) yes.old }
+pub fn put_truth<R: HasNumber>(v: Result<bool, R>, yes: &mut usize) -> usize
+    ensures fields { (result, yes.new) ≡ truth_out (verdict_by R.number_of v) yes.old }
+    ensures runs { (result, yes.new) ≡ compared_out (compared_by R.number_of v) yes.old }
 {
     match v {
         Ok(b) => {
@@ -48,13 +73,13 @@ pub fn put_truth(v: Result<bool, Refusal>, yes: &mut usize) -> usize
 }
 
 // Of flatten.
-pub fn put_flat(
-    f: Result<Flat, Refusal>,
+pub fn put_flat<R: HasNumber>(
+    f: Result<Flat, R>,
     in_work: &mut usize,
     start: &mut usize,
     count: &mut usize,
 ) -> usize
-    ensures { let told = flat_out (flat_of f) in_work.old start.old count.old in
+    ensures { let told = flat_out (flat_by R.number_of f) in_work.old start.old count.old in
         (result, in_work.new, start.new, count.new) ≡ told }
 {
     match f {
@@ -75,8 +100,12 @@ pub fn put_flat(
 }
 
 // Of a listing.
-pub fn put_list(m: Result<Matched, Refusal>, count: &mut usize, entries: &mut usize) -> usize
-    ensures { let told = list_out (matched_of m) count.old entries.old in
+pub fn put_list<R: HasNumber>(
+    m: Result<Matched, R>,
+    count: &mut usize,
+    entries: &mut usize,
+) -> usize
+    ensures { let told = list_out (matched_by R.number_of m) count.old entries.old in
         (result, count.new, entries.new) ≡ told }
 {
     match m {
@@ -107,9 +136,9 @@ pub fn put_list(m: Result<Matched, Refusal>, count: &mut usize, entries: &mut us
 // ---- sheets ----
 
 // Of a call that writes a text.
-#[tactic(auto, unfolding(sheet_write::specs::Write::written_of, words::specs::Refusals::told, crate::specs::SheetOutputs::written_out))]
-pub fn put_written(w: Result<usize, Refusal>, written: &mut usize) -> usize
-    ensures { (result, written.new) ≡ written_out (written_of w) written.old }
+#[tactic(auto, unfolding(crate::specs::Numbers::told_by, crate::specs::SheetOutputs::written_out))]
+pub fn put_written<R: HasNumber>(w: Result<usize, R>, written: &mut usize) -> usize
+    ensures { (result, written.new) ≡ written_out (written_by R.number_of w) written.old }
 {
     match w {
         Ok(n) => {

@@ -8,10 +8,12 @@ use Rattle.calls_spec.specs.Step.{Answer, After}
 use Rattle.equality.specs.Compare.{Comparison}
 use Rattle.view.specs.Check.{leaves}
 use Rattle.view_read.specs.Read.{leaves_work}
+use Rattle.view_read.specs.FlatLaws.{flat_told}
 use Rattle.listing.specs.Match.{leaves_slots}
 use Rattle.sheet_spec.specs.Job.{SheetAnswer}
 use Rattle.outputs.specs.SheetOutputs.{written_out, after_write}
 use Rattle.outputs.specs.Outputs.{field_out, truth_out, flat_out, list_out, compared_out}
+use Rattle.outputs.specs.NumberLaws.{answer_told, verdict_told, compared_told, matched_told, written_told}
 use Rattle.refal.specs.Export.{after_field, after_truth, after_flat, after_list}
 
 module _ (a : Answer) {x : After} {s : Store} where
@@ -43,5 +45,6 @@ pub write-left : (a : SheetAnswer) {x : SheetAnswer × List ℕ} {t : ℕ × ℕ
 unfolding after_write
 write-left a {x} {t} {o} old e p = ap (λ (v : ℕ × ℕ). (v, o)) p ∙ ap (λ (z : SheetAnswer × List ℕ). after_write z old) e
 
--- By which the check finds that an export tells what its call does.
-pub ruleset exports = (field-left, truth_left, flat_left, list_left)
+-- By which the check finds that an export tells what its call does, a refusal by 01's number.
+pub ruleset exports =
+    (field-left, truth_left, flat_left, list_left, answer_told, verdict_told, compared_told, flat_told, matched_told, written_told)

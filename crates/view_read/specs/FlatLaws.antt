@@ -1,5 +1,5 @@
 -- Laws of `flat_part`, and that it shows after flatten what the field holds.
-use Rattle.std.specs.Prelude.{◌≡◌, List, [], take, drop, ℕ, ◌+◌, ◌*◌, ◌-◌, ◌/◌, ◌<◌, ◌≤◌}
+use Rattle.std.specs.Prelude.{◌≡◌, Result, Ok, Err, List, [], take, drop, ℕ, ◌+◌, ◌*◌, ◌-◌, ◌/◌, ◌<◌, ◌≤◌}
 use Rattle.std.proofs.Math.Path.{refl, ap, sym}
 use Rattle.std.proofs.Common.{◌∙◌, le-leb, length-drop}
 use Rattle.std.proofs.lemmas.Bool.{lt-leb}
@@ -17,7 +17,10 @@ use Rattle.view_spec.proofs.ReadLaws.{place-shows}
 use Rattle.calls_spec.specs.Store.{Store, terms, nodes}
 use Rattle.calls_spec.specs.Step.{Answer, refused, in_store, in_work, shown_by, flat_answer, flat_work}
 use Rattle.view.specs.StepLaws.{Usable}
-use Rattle.view_read.specs.Read.{part_of, run_words, shown_words, flat_words}
+use Rattle.words.specs.declared.refusal.Refusal.{Refusal}
+use Rattle.words.specs.Refusals.{spec_number}
+use Rattle.view_read.specs.declared.Flat.{Flat}
+use Rattle.view_read.specs.Read.{flat_of, flat_by, part_of, run_words, shown_words, flat_words}
 use Rattle.view_read.specs.PlaceLaws.{copy-length}
 
 -- ---- the words of a run ----
@@ -65,6 +68,12 @@ module _ (terms work : List ℕ) {a : Answer} where
   pub refused_none : (n : ℕ) → a ≡ refused n → [] ≡ flat_words a terms work
   unfolding flat_words shown_by shown_words
   refused_none n e = rw e refl
+
+-- The refusals of the code are told by 01's numbers.
+pub flat_told : (f : Result Flat Refusal) → flat_by spec_number f ≡ flat_of f
+unfolding flat_by flat_of
+flat_told (Ok f) = refl
+flat_told (Err r) = refl
 
 -- ---- `flat_part` after flatten ----
 

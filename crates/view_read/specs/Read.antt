@@ -32,6 +32,11 @@ unfoldable pub flat_of : Result Flat Refusal → Answer
 flat_of (Ok f) = found_of f
 flat_of (Err r) = refused (spec_number r)
 
+-- The same of any refusals, by the numbers that they are told by.
+unfoldable pub flat_by : {E : Type 0} → (E → ℕ) → Result Flat E → Answer
+flat_by number (Ok f) = found_of f
+flat_by number (Err r) = refused (number r)
+
 -- What a call leaves that is lent a work buffer and no slots.
 unfoldable pub leaves_work : Answer → Store → List ℕ → After
 leaves_work a s w = record { answer = a; store = s; slots = []; work = w }

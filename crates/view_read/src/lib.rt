@@ -11,7 +11,7 @@ ghost use Rattle.calls_spec.specs.Step.{call_starts_with, call_equal, call_flatt
 ghost use Rattle.nodes.specs.NodeStore.{nodes_in, NodeStore, Reaches};
 ghost use Rattle.rope.specs.Pieces.{ShowsOf};
 ghost use Rattle.view.specs.Check.{as_field, store_of, leaves};
-ghost use Rattle.view_read.specs.Read.{verdict_of, spec_place_of, found_of, flat_of, leaves_work, flat_words, settled_of, settled_by};
+ghost use Rattle.view_read.specs.Read.{verdict_of, spec_place_of, found_of, flat_of, flat_by, leaves_work, flat_words, settled_of, settled_by};
 
 use value::store::Store;
 use view::Field;
@@ -168,9 +168,9 @@ fn found_part<'a>(terms: &'a [u32], work: &'a [u32], flat: Flat) -> &'a [u32]
     }
 }
 
-// The words of the terms that flatten showed. Empty for a refusal and for an answer that came of other slices.
-pub fn flat_part<'a>(terms: &'a [u32], work: &'a [u32], flat: Result<Flat, Refusal>) -> &'a [u32]
-    ensures { result.now ≡ flat_words (flat_of flat) terms.now work.now }
+// The words of the terms that flatten showed. Empty for a refusal, whatever it is, and for an answer that came of other slices.
+pub fn flat_part<'a, E: Copy>(terms: &'a [u32], work: &'a [u32], flat: Result<Flat, E>) -> &'a [u32]
+    ensures { (number : E → ℕ) → result.now ≡ flat_words (flat_by number flat) terms.now work.now }
 {
     match flat {
         Ok(found) => found_part(terms, work, found),

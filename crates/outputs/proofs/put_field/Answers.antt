@@ -1,13 +1,13 @@
 -- Each case of the answer is one clause of its definition, told by the definitions of Outputs.antt.
 use Rattle.calls_spec.specs.Step.{answer_number}
-use Rattle.view.specs.Check.{answer_of}
+use Rattle.outputs.specs.Numbers.{told_by}
 use Rattle.outputs.specs.Outputs.{values_of, or_old, field_out}
 use Rattle.outputs.proofs.put_field.Goals as goal
 
 pub returns-in-Ok : goal.returns-in-Ok
-unfolding answer_of field_out answer_number values_of or_old
-returns-in-Ok c = rw c.in-Ok.is
+unfolding told_by field_out answer_number values_of or_old
+returns-in-Ok g c = rw c.in-Ok.is
 
 pub returns-in-Err : goal.returns-in-Err
-unfolding answer_of field_out answer_number values_of or_old
-returns-in-Err c = rw (c.in-Err.is, c.number.ensures)
+unfolding told_by field_out answer_number values_of or_old
+returns-in-Err g c = rw (c.in-Err.is, c.number.ensures)
