@@ -31,7 +31,7 @@ fn item_ok(names: &[u8], t: Item) -> bool
         }
         Ok(ItemKind::Open | ItemKind::Close) => t.b == 0 && t.c == 0,
         Ok(ItemKind::SVariable | ItemKind::TVariable | ItemKind::EVariable) => {
-            text::text_ok(names, TextKind::Name, t.a, t.b) && t.c == 0
+            text::text_ok(names, TextKind::Name.number(), t.a, t.b) && t.c == 0
         }
         Ok(ItemKind::Call | ItemKind::Block) => t.a == 0 && t.b == 0 && t.c == 0,
         Err(_) => false,
@@ -151,7 +151,7 @@ fn find_binding(names: &[u8], bindings: &[u32], count: usize, x: Name) -> Option
 fn binding_ok(names: &[u8], b: Binding) -> bool
     ensures { result ≡ binding_rule names.now (as_binding b) }
 {
-    is_variable(b.kind) && text::text_ok(names, TextKind::Name, b.offset, b.size)
+    is_variable(b.kind) && text::text_ok(names, TextKind::Name.number(), b.offset, b.size)
 }
 
 // The rule of few bindings: each one's name is looked for among all before it.

@@ -16,7 +16,7 @@ use Rattle.term_spec.specs.Term.{identifier_kind, number_kind}
 use Rattle.term_spec.specs.Value.{ident, canon}
 use Rattle.term_spec.proofs.ValueLaws.{is_yes_lem, is_no, yes_of, alike}
 use Rattle.term_spec.proofs.ListLaws.{part_length}
-use Rattle.text.specs.Texts.{byte_test, spelled, spelling, folded, texts_equal, identifiers_equal}
+use Rattle.text.specs.Texts.{byte_test, spelled, name_text, spelling, folded, texts_equal, identifiers_equal}
 
 -- ---- a text byte by byte ----
 
@@ -107,7 +107,15 @@ spells_variable (suc zero) l h k = absurd (h refl)
 spells_variable (suc (suc zero)) l h k = absurd (k refl)
 spells_variable (suc (suc (suc j))) l h k = sym (every_all spec_is_name_byte l)
 
--- These, in one.
+-- Any other kind asks what that of a variable's name does.
+pub spells_other : (kind : ℕ) → (kind ≡ identifier_kind → ⊥) → (kind ≡ number_kind → ⊥) → (l : List ℕ) → spelling name_text l ≡ spelling kind l
+unfolding spelling
+spells_other zero h k l = refl
+spells_other (suc zero) h k l = absurd (h refl)
+spells_other (suc (suc zero)) h k l = absurd (k refl)
+spells_other (suc (suc (suc j))) h k l = refl
+
+-- A text by each of the three, in one.
 pub ruleset spellings = (spells_identifier, spells_empty, spells_number, spells_variable)
 
 -- The rule of a text of a size within the bounds: out of the names, and within.

@@ -4,7 +4,7 @@
 ghost use Rattle.std.specs.Prelude.{◌≡◌, true, false, ◌+◌, ◌<◌, ◌≤◌, length};
 ghost use Rattle.std.specs.List.{list_all};
 ghost use Rattle.term_spec.specs.Text.{spec_is_name_byte, spec_is_digit, is_zero, lower as lowered, text_rule};
-ghost use Rattle.text.specs.Kinds.{text_kind};
+ghost use Rattle.text.specs.Kinds.{text_kind, SpellsAs};
 ghost use Rattle.text.specs.Texts.{spelling, texts_equal, identifiers_equal, numbers_equal};
 
 // A letter, a digit, `-` or `_`.
@@ -30,12 +30,35 @@ fn all_digits(text: &[u8]) -> bool
     text.iter().all(|c| c.is_ascii_digit())
 }
 
-// What a text spells: an identifier, a number, or a variable's name.
+// What a text spells: an identifier, a number, or a variable's name. The first two have the numbers of the terms with such texts.
 #[derive(Clone, Copy, Debug, PartialEq, Eq)]
 pub enum TextKind {
-    Identifier,
-    Number,
-    Name,
+    Identifier = 1,
+    Number = 2,
+    Name = 3,
+}
+
+impl TextKind {
+    // Its number.
+    pub fn number(self) -> usize
+        ensures { result ≡ text_kind self }
+    {
+        self as usize
+    }
+}
+
+// Any other number means a variable's name.
+impl From<usize> for TextKind {
+    ghost from_gives = { SpellsAs };
+
+    #[tactic(auto, using(crate::specs::TextLaws::spells_other))]
+    fn from(number: usize) -> Self {
+        match number {
+            1 => TextKind::Identifier,
+            2 => TextKind::Number,
+            _ => TextKind::Name,
+        }
+    }
 }
 
 // The most bytes of a text.
@@ -58,13 +81,13 @@ fn spells(text: &[u8], kind: TextKind) -> bool
 
 // The rule of a text: 1 to 255 bytes of the names, spelled as its kind asks.
 #[tactic(auto, using(crate::specs::TextLaws::rule_tests))]
-pub fn text_ok(names: &[u8], kind: TextKind, o: usize, n: usize) -> bool
-    ensures { result ≡ text_rule (spelling (text_kind kind)) names.now o n }
+pub fn text_ok(names: &[u8], kind: usize, o: usize, n: usize) -> bool
+    ensures { result ≡ text_rule (spelling kind) names.now o n }
 {
     matches!(n, 1..=TEXT_LIMIT)
         && n <= names.len()
         && o <= names.len() - n
-        && spells(&names[o..o + n], kind)
+        && spells(&names[o..o + n], TextKind::from(kind))
 }
 
 // How many bytes there are.

@@ -95,7 +95,21 @@ module _ (names : List ℕ) where
   pub symbol_is_none : {k : ℕ} (a b c : ℕ) → number_kind < k → symbol_rule k names a b c ≡ false
   symbol_is_none a b c h = symbol_none _ a b c h
 
+  -- the kinds with a text as the kind itself asks it, and all others, as tests of one kind after another have them
+  pub symbol_asks_identifier : {k : ℕ} (a b c : ℕ) → k ≡ identifier_kind → symbol_rule k names a b c ≡ text_rule (spelling k) names a b && eqb c 0
+  unfolding symbol_rule text_rule spelling
+  symbol_asks_identifier a b c e = rw e refl
+
+  pub symbol_asks_number : {k : ℕ} (a b c : ℕ) → k ≡ number_kind → symbol_rule k names a b c ≡ text_rule (spelling k) names a b && eqb c 0
+  unfolding symbol_rule text_rule spelling
+  symbol_asks_number a b c e = rw e refl
+
+  pub symbol_is_other : {k : ℕ} (a b c : ℕ) → (k ≡ char_kind → ⊥) → (k ≡ identifier_kind → ⊥) → (k ≡ number_kind → ⊥) → symbol_rule k names a b c ≡ false
+  symbol_is_other a b c h i m = symbol_none _ a b c (omega arith)
+
 pub ruleset symbol_kinds = (symbol_is_char, symbol_is_identifier, symbol_is_number, symbol_is_none)
+
+pub ruleset symbol_tests = (symbol_is_char, symbol_asks_identifier, symbol_asks_number, symbol_is_other)
 
 pub upper_unknown : (t : Term) → t.kind ≡ unknown_kind → true ≡ upper_rule t
 upper_unknown t e = rw (eq-eqb t.kind unknown_kind e) refl
@@ -181,7 +195,17 @@ module _ (names : List ℕ) (below : List Term) where
         go (yes h) = term_is_symbol h ∙ e
         go (no n) = term_is_none (omega arith) ∙ e
 
+    -- what is no bracket and no unknown, as tests of one kind after another have it
+    pub term_is_other : (t.kind ≡ bracket_kind → ⊥) → (t.kind ≡ unknown_kind → ⊥) → term_rule names below t ≡ symbol_rule t.kind names t.a t.b t.c
+    term_is_other b u = go (dec_lt t.kind bracket_kind)
+      where
+        go : Dec (t.kind < bracket_kind) → term_rule names below t ≡ symbol_rule t.kind names t.a t.b t.c
+        go (yes h) = term_is_symbol h
+        go (no n) = term_is_none (omega arith)
+
 pub ruleset term_kinds = (term_is_uneven, term_is_bracket, term_is_unknown, term_is_good, term_is_bad)
+
+pub ruleset term_tests = (term_is_uneven, term_is_bracket, term_is_unknown, term_is_other)
 
 -- ---- the terms of a store, from term i on ----
 

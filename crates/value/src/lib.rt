@@ -14,7 +14,6 @@ ghost use Rattle.value.specs.Check.{run_of, terms_number};
 ghost use Rattle.value.specs.Blocks.{spec_low_block, spec_high_block, Covers, Blocks, deepened, Tables};
 ghost use Rattle.value.specs.Equal.{Texts, spec_equal_symbols};
 
-use text::TextKind;
 use words::Term;
 use words::kind::TermKind;
 use words::refusal::Refusal;
@@ -37,7 +36,7 @@ fn is_scalar(c: usize) -> bool
 
 // The rule of a literal symbol: Char, Identifier or Number.
 #[inline(always)]
-#[tactic(auto, using(crate::specs::CheckLaws::symbol_kinds))]
+#[tactic(auto, using(crate::specs::CheckLaws::symbol_tests))]
 pub fn symbol_ok(names: &[u8], t: Term) -> bool
     ensures { result ≡ symbol_rule t.kind names.now t.a t.b t.c }
 {
@@ -45,12 +44,9 @@ pub fn symbol_ok(names: &[u8], t: Term) -> bool
     if t.is(TermKind::Char) {
         return is_scalar(t.a) && t.b == 0 && t.c == 0;
     }
-    let kind = match TermKind::try_from(t.kind) {
-        Ok(TermKind::Identifier) => TextKind::Identifier,
-        Ok(TermKind::Number) => TextKind::Number,
-        _ => return false,
-    };
-    text::text_ok(names, kind, t.a, t.b) && t.c == 0
+    (t.is(TermKind::Identifier) || t.is(TermKind::Number))
+        && text::text_ok(names, t.kind, t.a, t.b)
+        && t.c == 0
 }
 
 // A term's own depth: a bracket's is its c, no other term has one.
@@ -172,23 +168,23 @@ fn upper_ok(t: Term) -> bool
 }
 
 // The rule of a term with number i among those below it.
-#[tactic(auto, using(crate::specs::CheckLaws::term_kinds))]
+#[tactic(auto, using(crate::specs::CheckLaws::term_tests))]
 fn term_ok(names: &[u8], terms: &[u32], low: &[u8], high: &[u8], i: usize, t: Term) -> bool
     requires lies { Lies term_layout terms.now i }
     requires blocks { Blocks terms.now i low.now high.now }
     ensures { result ≡ term_rule names.now (decode term_layout i terms.now) (as_term t) }
 {
-    // Symbols first, since most terms are; and tests and no match, as in `symbol_ok`.
+    // Tests and no match, as in `symbol_ok`. Unknowns first, since the fifth word is tested by the same kind.
     if !upper_ok(t) {
         return false;
     }
-    if symbol_ok(names, t) {
-        return true;
+    if t.is(TermKind::Unknown) {
+        return t.a <= words::EXPRESSION;
     }
     if t.is(TermKind::Bracket) {
         return bracket_ok(terms, low, high, i, t);
     }
-    t.is(TermKind::Unknown) && t.a <= words::EXPRESSION
+    symbol_ok(names, t)
 }
 
 // The rule of the used terms. The tables are lent with no terms in them; each term that keeps its rule goes into them, so that they
