@@ -40,32 +40,40 @@ impl<'a> Iterator for Tokens<'a> {
             .rest
             .iter()
             .position(|byte| *byte != b' ' && *byte != b'\n')?;
-        let text = &self.rest[start..];
-        if text[0] == b'#' {
+        if self.rest[start] == b'#' {
             return None;
         }
-        let (token, rest) = text.split_at(token_length(text));
-        self.rest = rest;
+        let end = token_end(self.rest, start);
+        let token = &self.rest[start..end];
+        self.rest = &self.rest[end..];
         Some(token)
     }
 }
 
-// The length of the token that the text starts with: up to its second quote, or up to a space. A token ends with its line.
-fn token_length(text: &[u8]) -> usize
-    requires { 0 < length text.now }
-    ensures { (0 < result) × (result ≤ length text.now) }
+// Where the token that starts at `at` ends: past its second quote, or before a space. A space and an end of line are tokens of their own, and so is a
+// comment; any other token ends with its line.
+pub fn token_end(line: &[u8], at: usize) -> usize
+    requires { at < length line.now }
+    ensures { (at < result) × (result ≤ length line.now) }
 {
-    let quoted = text[0] == b'\'' || text[0] == b'"';
-    let last = if quoted { text[0] } else { b' ' };
-    match text[1..]
+    let first = line[at];
+    if first == b' ' || first == b'\n' {
+        return at + 1;
+    }
+    if first == b'#' {
+        return line.len();
+    }
+    let quoted = first == b'\'' || first == b'"';
+    let last = if quoted { first } else { b' ' };
+    match line[at + 1..]
         .iter()
         .position(|byte| *byte == last || *byte == b'\n')
     {
-        None => text.len(),
-        Some(i) => if quoted && text[i + 1] == last {
-            i + 2
+        None => line.len(),
+        Some(i) => if quoted && line[at + 1 + i] == last {
+            at + i + 2
         } else {
-            i + 1
+            at + i + 1
         },
     }
 }
