@@ -1,9 +1,10 @@
 // Texts of lines and tokens, for the programs that read their cases, and the files and arguments that they come from.
 #![tactic(auto)]
 
-ghost use Rattle.std.specs.Prelude.{◌≡◌, ◌<◌, ◌≤◌, IfOk, length, take};
+ghost use Rattle.std.specs.Prelude.{◌≡◌, ◌<◌, ◌≤◌, IfOk, IfSome, MatchOption, IsUtf8, length, take};
 ghost use Rattle.std.specs.Iterator.{at_most};
 ghost use Rattle.lines.specs.Decimal.{decimal_of};
+ghost use Rattle.lines.specs.Tokens.{TokenOf};
 
 use std::io::Read;
 use std::rt::{Env, Files};
@@ -32,6 +33,10 @@ impl<'a> Tokens<'a> {
 
 impl<'a> Iterator for Tokens<'a> {
     type Item = &'a [u8];
+
+    // A token is not empty and stands in what was left; what is left then begins where it ends.
+    ghost next_gives = { λ old result new.
+        MatchOption result (new.rest.now ≡ old.rest.now) (λ token. TokenOf old.rest.now token.now new.rest.now) };
 
     ghost remaining = { λ tokens. at_most (length tokens.rest.now) };
 
@@ -107,7 +112,9 @@ pub fn arg<'a>(rt: &impl Env, i: usize, buffer: &'a mut [u8]) -> &'a [u8]
 }
 
 // None where the file cannot be opened, or where its path is no text.
-pub fn open<R: Files>(rt: &R, path: &[u8]) -> Option<R::File> {
+pub fn open<R: Files>(rt: &R, path: &[u8]) -> Option<R::File>
+    ensures { IfSome result (λ _. IsUtf8 path.now) }
+{
     fs::open(rt, str::from_utf8(path).ok()?).ok()
 }
 
