@@ -1,9 +1,10 @@
 // Texts of lines and tokens, for the programs that read their cases, and the files and arguments that they come from.
 #![tactic(auto)]
 
-ghost use Rattle.std.specs.Prelude.{◌≡◌, ◌<◌, ◌≤◌, IfOk, length, take};
+ghost use Rattle.std.specs.Prelude.{◌≡◌, ◌<◌, ◌≤◌, IfOk, IfSome, MatchOption, IsUtf8, length, take};
 ghost use Rattle.std.specs.Iterator.{at_most};
 ghost use Rattle.lines.specs.Decimal.{decimal_of};
+ghost use Rattle.lines.specs.Tokens.{TokenOf};
 
 use std::io::Read;
 use std::rt::{Env, Files};
@@ -33,6 +34,10 @@ impl<'a> Tokens<'a> {
 impl<'a> Iterator for Tokens<'a> {
     type Item = &'a [u8];
 
+    // A token is not empty and stands in what was left; what is left then begins where it ends.
+    ghost next_gives = { λ old result new.
+        MatchOption result (new.rest.now ≡ old.rest.now) (λ token. TokenOf old.rest.now token.now new.rest.now) };
+
     ghost remaining = { λ tokens. at_most (length tokens.rest.now) };
 
     fn next(&mut self) -> Option<&'a [u8]> {
@@ -40,32 +45,40 @@ impl<'a> Iterator for Tokens<'a> {
             .rest
             .iter()
             .position(|byte| *byte != b' ' && *byte != b'\n')?;
-        let text = &self.rest[start..];
-        if text[0] == b'#' {
+        if self.rest[start] == b'#' {
             return None;
         }
-        let (token, rest) = text.split_at(token_length(text));
-        self.rest = rest;
+        let end = token_end(self.rest, start);
+        let token = &self.rest[start..end];
+        self.rest = &self.rest[end..];
         Some(token)
     }
 }
 
-// The length of the token that the text starts with: up to its second quote, or up to a space. A token ends with its line.
-fn token_length(text: &[u8]) -> usize
-    requires { 0 < length text.now }
-    ensures { (0 < result) × (result ≤ length text.now) }
+// Where the token that starts at `at` ends: past its second quote, or before a space. A space and an end of line are tokens of their own, and so is a
+// comment; any other token ends with its line.
+pub fn token_end(line: &[u8], at: usize) -> usize
+    requires { at < length line.now }
+    ensures { (at < result) × (result ≤ length line.now) }
 {
-    let quoted = text[0] == b'\'' || text[0] == b'"';
-    let last = if quoted { text[0] } else { b' ' };
-    match text[1..]
+    let first = line[at];
+    if first == b' ' || first == b'\n' {
+        return at + 1;
+    }
+    if first == b'#' {
+        return line.len();
+    }
+    let quoted = first == b'\'' || first == b'"';
+    let last = if quoted { first } else { b' ' };
+    match line[at + 1..]
         .iter()
         .position(|byte| *byte == last || *byte == b'\n')
     {
-        None => text.len(),
-        Some(i) => if quoted && text[i + 1] == last {
-            i + 2
+        None => line.len(),
+        Some(i) => if quoted && line[at + 1 + i] == last {
+            at + i + 2
         } else {
-            i + 1
+            at + i + 1
         },
     }
 }
@@ -99,7 +112,9 @@ pub fn arg<'a>(rt: &impl Env, i: usize, buffer: &'a mut [u8]) -> &'a [u8]
 }
 
 // None where the file cannot be opened, or where its path is no text.
-pub fn open<R: Files>(rt: &R, path: &[u8]) -> Option<R::File> {
+pub fn open<R: Files>(rt: &R, path: &[u8]) -> Option<R::File>
+    ensures { IfSome result (λ _. IsUtf8 path.now) }
+{
     fs::open(rt, str::from_utf8(path).ok()?).ok()
 }
 
