@@ -156,7 +156,8 @@ fn same_stripped(long: &[u8], short: &[u8]) -> bool
     !short.is_empty() && all_zeros(surplus) && rest == short
 }
 
-// Whether two numbers are equal: leading zeros do not count.
+// Whether two numbers are equal: leading zeros do not count. Not copied into the comparison of symbols either.
+#[inline(never)]
 #[tactic(auto, using(crate::specs::NumberLaws::numbers_alike, crate::specs::NumberLaws::numbers_sym, crate::specs::TextLaws::bytes_same))]
 pub fn same_numbers(a: &[u8], b: &[u8]) -> bool
     ensures { result ≡ numbers_equal a.now b.now }

@@ -238,7 +238,9 @@ pub fn check_terms(names: &[u8], terms: &[u32], used: usize) -> Result<(), Refus
 
 // ---- symbols ----
 
-// Whether two terms of one kind are equal, a bracket being no such term.
+// Whether two terms of one kind are equal, a bracket being no such term. Copied into its callers, since what is handed to a call is written to memory
+// first: terms that are no texts are compared without that.
+#[inline(always)]
 #[tactic(auto, using(crate::specs::EqualLaws::texts_lie, crate::specs::EqualLaws::symbols_other))]
 pub fn equal_symbols(names: &[u8], t: Term, u: Term) -> bool
     requires texts { Texts names.now (as_term t) (as_term u) }
