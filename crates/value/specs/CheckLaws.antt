@@ -203,9 +203,13 @@ module _ (names : List ℕ) (below : List Term) where
         go (yes h) = term_is_symbol h
         go (no n) = term_is_none (omega arith)
 
+  -- an unknown, whose fifth word may be any
+  pub term_is_any_unknown : (t : Term) → unknown_kind ≡ t.kind → term_rule names below t ≡ leb t.a expression_unknown
+  term_is_any_unknown t e = term_is_unknown t (sym (upper_unknown t (sym e))) e
+
 pub ruleset term_kinds = (term_is_uneven, term_is_bracket, term_is_unknown, term_is_good, term_is_bad)
 
-pub ruleset term_tests = (term_is_uneven, term_is_bracket, term_is_unknown, term_is_other)
+pub ruleset term_tests = (term_is_any_unknown, term_is_uneven, term_is_bracket, term_is_other)
 
 -- ---- the terms of a store, from term i on ----
 

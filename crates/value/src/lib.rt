@@ -174,12 +174,12 @@ fn term_ok(names: &[u8], terms: &[u32], low: &[u8], high: &[u8], i: usize, t: Te
     requires blocks { Blocks terms.now i low.now high.now }
     ensures { result ≡ term_rule names.now (decode term_layout i terms.now) (as_term t) }
 {
-    // Tests and no match, as in `symbol_ok`. Unknowns first, since the fifth word is tested by the same kind.
-    if !upper_ok(t) {
-        return false;
-    }
+    // Tests and no match, as in `symbol_ok`. Unknowns alone may have any fifth word, so they are asked for before it.
     if t.is(TermKind::Unknown) {
         return t.a <= words::EXPRESSION;
+    }
+    if !upper_ok(t) {
+        return false;
     }
     if t.is(TermKind::Bracket) {
         return bracket_ok(terms, low, high, i, t);
