@@ -49,7 +49,7 @@ returns-then-at-ge-NAME_LIMIT c =
     } in
     let found = rw c.as_slice.ensures.value at c.find_name-found.ensures in
     let placed = rw c.len.ensures.value at c.unwrap_or-at.ensures in
-    record { counted = numbered_many here (placed ∙ found.0) c.if-at-ge-NAME_LIMIT.true; few = tt; numbers = λ some. never some refl }
+    record { counted = numbered_many here (placed ∙ found.0) (omega arith); few = tt; numbers = λ some. never some refl }
 
 pub loop-i-preserved : goal.loop-i-preserved
 unfolding count
@@ -69,7 +69,7 @@ loop-i-preserved c =
     elim c.if-is_none.branch [
       | then-is_none w ↦
           let new = found_outside (bindings_in given.bindings.now + length c.loop-i.firsts.items) _ (c.is_none.ensures ∙ ap not w.if-is_none.true) in
-          numbered_met here (placed ∙ found.0) c.set_word-in-loop-i.ensures within c.if-at-ge-NAME_LIMIT.false (omega (arith, placed, new))
+          numbered_met here (placed ∙ found.0) c.set_word-in-loop-i.ensures within (omega arith) (omega (arith, placed, new))
           (rw w.firsts-is w.push.ensures.items)
       | else-is_none w ↦
           let old = found_inside _ _ _ _ found (c.is_none.ensures ∙ ap not w.if-is_none.false) in
