@@ -147,7 +147,7 @@ fn all_zeros(text: &[u8]) -> bool
 // Whether two numbers of different lengths are equal: the longer has zeros, and then the other's digits. A last digit is no leading zero, so no text is
 // equal to an empty one. It stays out of the loops that compare, and they copy only `same_numbers`.
 #[inline(never)]
-#[tactic(auto, using(crate::specs::NumberLaws::numbers_stripped, crate::specs::TextLaws::bytes_same))]
+#[tactic(auto, using(crate::specs::NumberLaws::numbers_stripped, crate::specs::TextLaws::bytes_same, std::proofs::lemmas::List::take_all))]
 fn same_stripped(long: &[u8], short: &[u8]) -> bool
     requires { length short.now < length long.now }
     ensures { result ≡ numbers_equal long.now short.now }

@@ -18,11 +18,11 @@ compared_bit false old = refl
 
 pub returns-in-Ok-clause-fields : goal.returns-in-Ok-clause-fields
 unfolding told_by truth_out answer_number values_of or_old
-returns-in-Ok-clause-fields g c = rw (c.in-Ok.is, c.from.ensures, told_bit c.in-Ok.b) refl
+returns-in-Ok-clause-fields g c = rw (c.in-Ok.is, c.from.ensures, told_bit _) refl
 
 pub returns-in-Ok-clause-runs : goal.returns-in-Ok-clause-runs
 unfolding told_by
-returns-in-Ok-clause-runs g c = rw (c.in-Ok.is, c.from.ensures, told_bit c.in-Ok.b) (compared_bit c.in-Ok.b _)
+returns-in-Ok-clause-runs g c = rw (c.in-Ok.is, c.from.ensures, told_bit _) (compared_bit c.in-Ok.b _)
 
 pub returns-in-Err-clause-fields : goal.returns-in-Err-clause-fields
 unfolding told_by truth_out answer_number values_of or_old
