@@ -14,9 +14,9 @@ returns-then-equal_runs c =
     let h = c.requires.ready in
     let e = c.equal_runs.ensures in (
       (
-        c.if-s-e.false,
+        omega arith,
         λ p. many_equals _ _ _ _ _ _ _ p
-            c.if-s-x.false h.1 h.0 (c.entry-e.ensures _ c.if-s-x.false) c.if-s-e.false e.0 c.if-equal_runs.true,
+            c.if-s-x.false h.1 h.0 (c.entry-e.ensures _ c.if-s-x.false) (omega arith) e.0 c.if-equal_runs.true,
       ),
       e.1,
     )
